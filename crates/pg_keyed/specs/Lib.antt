@@ -1,0 +1,5 @@
+pub mod Keyed
+pub mod Orders
+pub mod Ranks
+pub mod Puts
+pub mod Adjacency

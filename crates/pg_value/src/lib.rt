@@ -1,0 +1,21 @@
+//! Values, keys, rows, writes and commits, which contracts see as plain data, with their order and their printed form.
+#![tactic(auto)]
+
+mod list;
+mod row;
+mod shape;
+mod sort;
+mod text;
+mod value;
+mod write;
+
+pub use list::List;
+pub use row::{Key, Row, copy_key, copy_row, order_keys, order_rows};
+pub use shape::{
+    ColumnShape, EdgeNo, EdgeShape, ElemId, GraphNo, GraphShape, Shapes, TableNo, TableSet,
+    TableShape,
+};
+pub use sort::sort_rows;
+pub use text::Text;
+pub use value::{Cmp, Dir, Kind, Truth, Value, copy_value, order_values, print_value};
+pub use write::{Commit, PutFault, Write, Writes};
