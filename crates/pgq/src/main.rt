@@ -1,0 +1,4 @@
+//! Runs a script and prints its transcript.
+#![tactic(auto)]
+
+fn main() {}
