@@ -1,2 +1,4 @@
 pub mod Core
 pub mod Stepped
+pub mod Form
+pub mod Reading

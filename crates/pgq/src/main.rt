@@ -1,4 +1,8 @@
 //! Runs a script and prints its transcript.
 #![tactic(auto)]
 
+mod cursor;
+mod form;
+mod statement;
+
 fn main() {}
