@@ -5,4 +5,5 @@ pub mod Ranks
 pub mod Reads
 pub mod Weaves
 pub mod Puts
+pub mod Searches
 pub mod Adjacency
