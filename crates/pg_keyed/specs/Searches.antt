@@ -19,7 +19,7 @@ none_below Less h = refl
 none_below Equal h = absurd (omega arith)
 none_below Greater h = absurd (omega arith)
 
-some_within : {X : Type 0} (xs : List X) (i : ℕ) → i < length xs → slice_get xs i ≡ None → ⊥
+pub some_within : {X : Type 0} (xs : List X) (i : ℕ) → i < length xs → slice_get xs i ≡ None → ⊥
 some_within [] i l e = omega arith
 some_within (x ∷ xs) zero l e = some_none x e
   where
