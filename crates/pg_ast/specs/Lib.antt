@@ -1,0 +1,3 @@
+pub mod Exprs
+pub mod Labels
+pub mod CExprs
