@@ -1,3 +1,9 @@
 pub mod Exprs
 pub mod Labels
 pub mod CExprs
+pub mod Meaning
+pub mod Walks
+pub mod Rounds
+pub mod Fits
+pub mod Bindings
+pub mod Answers

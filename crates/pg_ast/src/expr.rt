@@ -45,7 +45,7 @@ pub enum Agg {
     Max,
 }
 
-/// An expression as it is written (ISO/IEC 9075-2:2023, 6.28 to 6.39). `at` is the place of the literal, of the operator's own word or symbol, which is IS
+/// An expression as it is written (ISO/IEC 9075-2:2023, value expression). `at` is the place of the literal, of the operator's own word or symbol, which is IS
 /// for the two tests of NULL, or of the aggregate's word.
 #[derive(Debug, Drop)]
 pub enum Expr {
