@@ -7,3 +7,6 @@ pub mod Rounds
 pub mod Fits
 pub mod Bindings
 pub mod Answers
+pub mod Members
+pub mod EdgeKeys
+pub mod OneHop
