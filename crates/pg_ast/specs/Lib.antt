@@ -1,0 +1,12 @@
+pub mod Exprs
+pub mod Labels
+pub mod CExprs
+pub mod Meaning
+pub mod Walks
+pub mod Rounds
+pub mod Fits
+pub mod Bindings
+pub mod Answers
+pub mod Members
+pub mod EdgeKeys
+pub mod OneHop
