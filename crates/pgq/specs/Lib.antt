@@ -5,3 +5,6 @@ pub mod Within
 pub mod Numbers
 pub mod Grows
 pub mod NowWhole
+pub mod Acts
+pub mod Moves
+pub mod SoFar
