@@ -8,3 +8,4 @@ pub mod NowWhole
 pub mod Acts
 pub mod Moves
 pub mod SoFar
+pub mod KeepsLegal
