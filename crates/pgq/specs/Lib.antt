@@ -9,3 +9,5 @@ pub mod Acts
 pub mod Moves
 pub mod SoFar
 pub mod KeepsLegal
+pub mod TurnsJoin
+pub mod SteppedLegal
