@@ -11,3 +11,4 @@ pub mod SoFar
 pub mod KeepsLegal
 pub mod TurnsJoin
 pub mod SteppedLegal
+pub mod Alone

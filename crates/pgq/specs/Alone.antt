@@ -1,0 +1,121 @@
+-- A statement outside a transaction, while nothing is pinned and nothing is built, leaves the core as it was but for the log, an accepted definition's base and a session's count.
+use Rattle.std.proofs.Common.{◌≡◌, ℕ, zero, suc, ◌+◌, ◌-◌, ◌<◌, ◌≤◌, ◌==◌, Bool, true, false, cond, List, [], ◌∷◌, ◌++◌, length, get_or, ◌⊎◌, inl, inr, refl, sym, subst, ap, ◌∙◌, arith, length-append, append_assoc, append-nil}
+use Rattle.std.proofs.lemmas.Bool.{eq-eqb, le-ltb}
+use Rattle.std.specs.Prelude.{nat_lt, slice_set, replicate, is_some, is_none, ◌&&◌, ◌||◌}
+use Rattle.std.specs.declared.option.Option.{Option}
+use Rattle.std.specs.declared.option.Option.TheVariants.{Some, None}
+use Rattle.pg_value.specs.declared.write.Commit.{Commit}
+use Rattle.pg_script.specs.declared.script.Item.{Item}
+use Rattle.pg_script.specs.declared.script.Section.{Section}
+use Rattle.pg_script.specs.declared.script.Script.{Script}
+use Rattle.pg_script.specs.declared.outcome.Outcome.{Outcome}
+use Rattle.pg_script.specs.declared.outcome.Outcome.TheVariants.{Defined}
+use Rattle.pg_script.specs.Judged.{Judges, Session, Open, Judged}
+use Rattle.pg_script.specs.Session.{printed, raised}
+use Rattle.pg_script.specs.Legal.{items_of}
+use Rattle.pgq.specs.Core.{Core, Build, pin_count, is_pinned, others, kept, seen_peak, base_after, after_pin, after_release, after_commit, after_mark, after_redefine, first_core}
+use Rattle.pgq.specs.Stepped.{World, Run, no_run, outs_of, session_at, seen_at, now, after_commits, went, defined, ended, marked, acts, follows_start, is_definition, next_item, moved, Did}
+
+-- no pin is held, no build is open, and the peak has counted the current base
+pub record IsAtRest (c : Core) : Type 0 where
+  pub no_pin : pin_count c.pins ≡ 0
+  pub no_build : c.build ≡ None
+  pub peak : 1 ≤ c.peak.0
+
+-- the session has finished one more item; the setup's are not counted
+abbrev pub counted : Core → ℕ → Core
+counted c n = cond (n == 0) c (record c { counts = slice_set c.counts n (get_or c.counts n 0 + 1) })
+
+-- PINS, WHERE THERE ARE NONE
+no_others : (base : ℕ) (pins : List (Option ℕ)) → pin_count pins ≡ 0 → others base pins ≡ 0
+no_others base [] h = refl
+no_others base (None ∷ pins) h = no_others base pins h
+no_others base (Some b ∷ pins) h = absurd (omega (arith, h))
+
+-- one pin on the base is no other base
+one_pin : (base n : ℕ) (pins : List (Option ℕ)) → pin_count pins ≡ 0 → others base (slice_set pins n (Some base)) ≡ 0
+one_pin base n [] h = refl
+one_pin base zero (None ∷ pins) h =
+    let e : cond {A = ℕ} (base == base) 0 (cond {A = ℕ} (is_pinned base pins) 0 1) ≡ 0 = ap (λ b. cond {A = ℕ} b 0 (cond {A = ℕ} (is_pinned base pins) 0 1)) (eq-eqb base base refl) in
+    let o : others base pins ≡ 0 = no_others base pins h in
+    omega (arith, e, o)
+one_pin base (suc n) (None ∷ pins) h = one_pin base n pins h
+one_pin base n (Some b ∷ pins) h = absurd (omega (arith, h))
+
+released : (n : ℕ) (pins : List (Option ℕ)) → pin_count pins ≡ 0 → slice_set pins n None ≡ pins
+released n [] h = refl
+released zero (None ∷ pins) h = refl
+released (suc n) (None ∷ pins) h = ap (λ l. None ∷ l) (released n pins h)
+released n (Some b ∷ pins) h = absurd (omega (arith, h))
+
+pinned_released : (base n : ℕ) (pins : List (Option ℕ)) → pin_count pins ≡ 0 → slice_set (slice_set pins n (Some base)) n None ≡ pins
+pinned_released base n [] h = refl
+pinned_released base zero (None ∷ pins) h = refl
+pinned_released base (suc n) (None ∷ pins) h = ap (λ l. None ∷ l) (pinned_released base n pins h)
+pinned_released base n (Some b ∷ pins) h = absurd (omega (arith, h))
+
+-- THE PEAK, WHERE IT HAS SEEN AS MUCH
+seen_same : (c : Core) → kept c ≤ c.peak.0 → seen_peak c ≡ c
+seen_same c h = ap (λ b. record c { peak = cond b (kept c, pin_count c.pins) c.peak }) (le-ltb c.peak.0 (kept c) h)
+
+kept_one : (c : Core) → others c.base c.pins ≡ 0 → c.build ≡ None → kept c ≡ 1
+kept_one c o b = ap (λ k. 1 + k + cond (is_some c.build) 1 0) o ∙ ap (λ (x : Option Build). 1 + cond (is_some x) 1 0) b
+
+module _ (c : Core) (r : IsAtRest c) where
+  kept_rest : (base : ℕ) (log : List Commit) (counts : List ℕ) → kept (record c { log = log; base = base; counts = counts }) ≤ c.peak.0
+  kept_rest base log counts = let k : kept (record c { log = log; base = base; counts = counts }) ≡ 1 = kept_one (record c { log = log; base = base; counts = counts }) (no_others base c.pins r.no_pin) r.no_build in omega (arith, k, r.peak)
+
+  -- what is at rest stays so under another log, base and counts
+  pub rest_stays : (base : ℕ) (log : List Commit) (counts : List ℕ) → IsAtRest (record c { log = log; base = base; counts = counts })
+  rest_stays base log counts = record { no_pin = r.no_pin; no_build = r.no_build; peak = r.peak }
+
+  pin_seen : (n : ℕ) → after_pin c n ≡ record c { pins = slice_set c.pins n (Some c.base) }
+  pin_seen n = seen_same (record c { pins = slice_set c.pins n (Some c.base) })
+      (let k : kept (record c { pins = slice_set c.pins n (Some c.base) }) ≡ 1 = kept_one (record c { pins = slice_set c.pins n (Some c.base) }) (one_pin c.base n c.pins r.no_pin) r.no_build in omega (arith, k, r.peak))
+
+  release_none : (n : ℕ) → after_release c n ≡ c
+  release_none n = ap (λ p. seen_peak (record c { pins = p })) (released n c.pins r.no_pin) ∙ seen_same c (kept_rest c.base c.log c.counts)
+
+  -- a pin of the base on the same core goes
+  release_pin : (n : ℕ) → after_release (record c { pins = slice_set c.pins n (Some c.base) }) n ≡ c
+  release_pin n = ap (λ p. seen_peak (record c { pins = p })) (pinned_released c.base n c.pins r.no_pin) ∙ seen_same c (kept_rest c.base c.log c.counts)
+
+  mark_counts : (n : ℕ) → marked c n ≡ counted c n
+  mark_counts n = ap (λ d. cond (n == 0) c d) (seen_same (record c { counts = slice_set c.counts n (get_or c.counts n 0 + 1) }) (kept_rest c.base c.log (slice_set c.counts n (get_or c.counts n 0 + 1))))
+
+  redefine_base : after_redefine c ≡ record c { base = length c.log }
+  redefine_base = seen_same (record c { base = length c.log }) (kept_rest (length c.log) c.log c.counts)
+
+-- commits that do not reach a fold leave the base
+commits_alone : (c : Core) (added : List Commit) → kept c ≤ c.peak.0 → length c.log + length added ≤ c.base + 256 → after_commits c added ≡ record c { log = c.log ++ added }
+commits_alone c [] k h = ap (λ l. record c { log = l }) (sym (append-nil c.log))
+commits_alone c (w ∷ ws) k h =
+    let d : Core = record c { log = c.log ++ w ∷ [] } in
+    let same : base_after c.base (length c.log) ≡ c.base = ap (λ b. cond b (length c.log) c.base) (ne_eqb (length c.log - c.base) 256 (λ e. omega (arith, e, h))) in
+    let one : after_commit c w ≡ d = ap (λ b. seen_peak (record d { base = b })) same ∙ seen_same d k in
+    ap (λ x. after_commits x ws) one ∙ commits_alone d ws k (omega (arith, h, length-append c.log (w ∷ []))) ∙ ap (λ l. record c { log = l }) (append_assoc c.log (w ∷ []) ws) where
+      ne_eqb : (a b : ℕ) → (a ≡ b → ⊥) → (a == b) ≡ false
+      ne_eqb a b x = grind arith
+
+-- a statement that starts, or is refused before a start, adds these commits, and ends
+pub acts_alone : (c : Core) (n : ℕ) (starts : Bool) (added : List Commit) → IsAtRest c → length c.log + length added ≤ c.base + 256 → acts c n starts added false true ≡ counted (record c { log = c.log ++ added }) n
+acts_alone c n true added r h =
+    let d : Core = record c { log = c.log ++ added } in
+    let p : Core = record c { pins = slice_set c.pins n (Some c.base) } in
+    let s : IsAtRest d = rest_stays c r c.base (c.log ++ added) c.counts in
+    let k : kept p ≤ c.peak.0 = (let e : kept p ≡ 1 = kept_one p (one_pin c.base n c.pins r.no_pin) r.no_build in omega (arith, e, r.peak)) in
+    ap (λ x. marked (after_release (after_commits x added) n) n) (pin_seen c r n) ∙ ap (λ x. marked (after_release x n) n) (commits_alone p added k h) ∙ ap (λ x. marked x n) (release_pin d s n) ∙ mark_counts d s n
+acts_alone c n false added r h =
+    let d : Core = record c { log = c.log ++ added } in
+    let s : IsAtRest d = rest_stays c r c.base (c.log ++ added) c.counts in
+    ap (λ x. marked (after_release x n) n) (commits_alone c added (kept_rest c r c.base c.log c.counts) h) ∙ ap (λ x. marked x n) (release_none d s n) ∙ mark_counts d s n
+
+-- an accepted definition makes the log's length the base
+pub acts_defining : (c : Core) (n : ℕ) → IsAtRest c → acts c n false [] true true ≡ counted (record c { base = length c.log }) n
+acts_defining c n r =
+    let d : Core = record c { base = length c.log } in
+    let s : IsAtRest d = rest_stays c r (length c.log) c.log c.counts in
+    ap (λ x. marked (after_release x n) n) (redefine_base c r) ∙ ap (λ x. marked x n) (release_none d s n) ∙ mark_counts d s n
+
+pub acts_defining_same : (c : Core) (n : ℕ) → IsAtRest c → c.base ≡ length c.log → acts c n false [] true true ≡ counted c n
+acts_defining_same c n r e = acts_defining c n r ∙ ap (λ b. counted (record c { base = b }) n) (sym e)
