@@ -119,3 +119,49 @@ acts_defining c n r =
 
 pub acts_defining_same : (c : Core) (n : ℕ) → IsAtRest c → c.base ≡ length c.log → acts c n false [] true true ≡ counted c n
 acts_defining_same c n r e = acts_defining c n r ∙ ap (λ b. counted (record c { base = b }) n) (sym e)
+
+-- A STATEMENT OF A SECTION WITHOUT AN OPEN TRANSACTION
+module _ {K D C Q X Y : Type 0} (J : Judges K D C Q X Y) (limit : ℕ) (script : Script) (w : World K) (n : ℕ) (item : Item) (r : IsAtRest w.core) where
+  abbrev last : Bool
+  last = length (outs_of w.runs n) + 1 == length (items_of script n)
+
+  abbrev starts : Outcome → Bool
+  starts o = is_none (get_or w.runs n no_run).open_ && follows_start o
+
+  -- one that is no accepted definition and leaves no transaction open, before the next fold
+  pub did_alone : (o : Outcome) (added : List Commit) (s' : Session K) → s'.open_ ≡ None → is_definition o ≡ false → next_item script w n ≡ Some item
+      → Judged J (now limit w.core (outs_of w.runs) added n) n (seen_at w n) (session_at w n) item o s' → length added ≡ length (printed o) → length w.core.log + length added ≤ w.core.base + 256
+      → Did J limit script w n (record { core = counted (record w.core { log = w.core.log ++ added }) n; catalog = s'.catalog; runs = slice_set w.runs n (record { outs = outs_of w.runs n ++ o ∷ []; open_ = None }) })
+  did_alone o added s' behind plain next judged as_printed room = record {
+    item = item;
+    outcome = o;
+    added = added;
+    session = s';
+    next = next;
+    judged = judged;
+    as_printed = as_printed;
+    becomes = λ i. record {
+      core = (sym (ap (λ d. acts w.core n (starts o) added d (is_none s'.open_ || last)) plain ∙ ap (λ (x : Option Open). acts w.core n (starts o) added false (is_none x || last)) behind ∙ acts_alone w.core n (starts o) added r room)) i;
+      catalog = s'.catalog;
+      runs = slice_set w.runs n (record { outs = outs_of w.runs n ++ o ∷ []; open_ = sym behind i });
+    };
+  }
+
+  -- an accepted definition
+  pub did_defining : (name : List ℕ) (at : ℕ) (s' : Session K) → (get_or w.runs n no_run).open_ ≡ None → s'.open_ ≡ None → next_item script w n ≡ Some item
+      → Judged J (now limit w.core (outs_of w.runs) [] n) n (seen_at w n) (session_at w n) item (Defined name at) s'
+      → Did J limit script w n (record { core = counted (record w.core { base = length w.core.log }) n; catalog = s'.catalog; runs = slice_set w.runs n (record { outs = outs_of w.runs n ++ Defined name at ∷ []; open_ = None }) })
+  did_defining name at s' before behind next judged = record {
+    item = item;
+    outcome = Defined name at;
+    added = [];
+    session = s';
+    next = next;
+    judged = judged;
+    as_printed = refl;
+    becomes = λ i. record {
+      core = (sym (ap (λ (x : Option Open). acts w.core n (is_none x && false) [] true (is_none s'.open_ || last)) before ∙ ap (λ (x : Option Open). acts w.core n false [] true (is_none x || last)) behind ∙ acts_defining w.core n r)) i;
+      catalog = s'.catalog;
+      runs = slice_set w.runs n (record { outs = outs_of w.runs n ++ Defined name at ∷ []; open_ = sym behind i });
+    };
+  }
