@@ -1,7 +1,7 @@
 -- A statement outside a transaction, while nothing is pinned and nothing is built, leaves the core as it was but for the log, an accepted definition's base and a session's count.
-use Rattle.std.proofs.Common.{◌≡◌, ℕ, zero, suc, ◌+◌, ◌-◌, ◌<◌, ◌≤◌, ◌==◌, Bool, true, false, cond, List, [], ◌∷◌, ◌++◌, length, get_or, ◌⊎◌, inl, inr, refl, sym, subst, ap, ◌∙◌, arith, length-append, append_assoc, append-nil}
+use Rattle.std.proofs.Common.{◌≡◌, ℕ, zero, suc, ◌+◌, ◌-◌, ◌<◌, ◌≤◌, ◌==◌, Bool, true, false, cond, List, [], ◌∷◌, ◌++◌, length, drop, get_or, ◌⊎◌, inl, inr, refl, sym, subst, ap, ◌∙◌, arith, length-append, append_assoc, append-nil}
 use Rattle.std.proofs.lemmas.Bool.{eq-eqb, le-ltb}
-use Rattle.std.specs.Prelude.{nat_lt, slice_set, replicate, is_some, is_none, ◌&&◌, ◌||◌}
+use Rattle.std.specs.Prelude.{nat_lt, slice_get, slice_set, replicate, is_some, is_none, ◌&&◌, ◌||◌}
 use Rattle.std.specs.declared.option.Option.{Option}
 use Rattle.std.specs.declared.option.Option.TheVariants.{Some, None}
 use Rattle.pg_value.specs.declared.write.Commit.{Commit}
@@ -14,7 +14,8 @@ use Rattle.pg_script.specs.Judged.{Judges, Session, Open, Judged}
 use Rattle.pg_script.specs.Session.{printed, raised}
 use Rattle.pg_script.specs.Legal.{items_of}
 use Rattle.pgq.specs.Core.{Core, Build, pin_count, is_pinned, others, kept, seen_peak, base_after, after_pin, after_release, after_commit, after_mark, after_redefine, first_core}
-use Rattle.pgq.specs.Stepped.{World, Run, no_run, outs_of, session_at, seen_at, now, after_commits, went, defined, ended, marked, acts, follows_start, is_definition, next_item, moved, Did}
+use Rattle.pgq.specs.Stepped.{World, Run, no_run, outs_of, session_at, seen_at, now, after_commits, marked, acts, follows_start, is_definition, next_item, Did, Turn, Turns, run_out, setup_turns, last_turns, first_world, transcript_of, Stepped}
+use Rattle.pgq.specs.TurnsJoin.{turns_join}
 
 -- no pin is held, no build is open, and the peak has counted the current base
 pub record IsAtRest (c : Core) : Type 0 where
@@ -165,3 +166,58 @@ module _ {K D C Q X Y : Type 0} (J : Judges K D C Q X Y) (limit : ℕ) (script :
       runs = slice_set w.runs n (record { outs = outs_of w.runs n ++ Defined name at ∷ []; open_ = sym behind i });
     };
   }
+
+-- A SETUP OF SUCH STATEMENTS
+-- the world of so many sections while the setup runs, after these outcomes, none of which left a transaction open
+abbrev pub setup_world : {K : Type 0} → ℕ → ℕ → List Commit → K → List Outcome → World K
+setup_world sections base log catalog os = record {
+  core = record (first_core (sections + 1) sections) { log = log; base = base };
+  catalog = catalog;
+  runs = record { outs = os; open_ = None } ∷ replicate (sections - 1) no_run;
+}
+
+no_pins : (k : ℕ) → pin_count (replicate k None) ≡ 0
+no_pins zero = refl
+no_pins (suc k) = no_pins k
+
+pub setup_rest : {K : Type 0} (sections base : ℕ) (log : List Commit) (catalog : K) (os : List Outcome) → IsAtRest (setup_world sections base log catalog os).core
+setup_rest sections base log catalog os = record { no_pin = no_pins (sections + 1); no_build = refl; peak = omega arith }
+
+replicate_first : {A : Type 0} (k : ℕ) (a : A) → 0 < k → replicate k a ≡ a ∷ replicate (k - 1) a
+replicate_first zero a h = absurd (omega (arith, h))
+replicate_first (suc k) a h = ap (λ m. a ∷ replicate m a) (omega arith)
+
+pub setup_begins : {K : Type 0} (script : Script) (empty : K) → 0 < length script.sections → first_world script empty ≡ setup_world (length script.sections) 0 [] empty []
+setup_begins script empty h = λ i. record { core = first_core (length script.sections + 1) (length script.sections); catalog = empty; runs = replicate_first (length script.sections) no_run h i }
+
+module _ {K D C Q X Y : Type 0} (J : Judges K D C Q X Y) (limit : ℕ) (script : Script) (sections base : ℕ) (log : List Commit) (catalog : K) (os : List Outcome) (item : Item) where
+  abbrev W : World K
+  W = setup_world sections base log catalog os
+
+  abbrev rests : K → Session K
+  rests k = record { open_ = None; catalog = k }
+
+  -- the setup's turn of a statement that is no accepted definition
+  pub setup_turn_alone : (o : Outcome) (added : List Commit) (catalog' : K) → is_definition o ≡ false → slice_get (items_of script 0) (length os) ≡ Some item
+      → Judged J (now limit W.core (outs_of W.runs) added 0) 0 (raised 0 os) (rests catalog) item o (rests catalog') → length added ≡ length (printed o) → length log + length added ≤ base + 256
+      → Turn J limit script W 0 (setup_world sections base (log ++ added) catalog' (os ++ o ∷ []))
+  setup_turn_alone o added catalog' plain next judged as_printed room = inr (did_alone J limit script W 0 item (setup_rest sections base log catalog os) o added (rests catalog') refl plain next judged as_printed room)
+
+  -- and of an accepted definition
+  pub setup_turn_defining : (name : List ℕ) (at : ℕ) (catalog' : K) → slice_get (items_of script 0) (length os) ≡ Some item
+      → Judged J (now limit W.core (outs_of W.runs) [] 0) 0 (raised 0 os) (rests catalog) item (Defined name at) (rests catalog')
+      → Turn J limit script W 0 (setup_world sections (length log) log catalog' (os ++ Defined name at ∷ []))
+  setup_turn_defining name at catalog' next judged = inr (did_defining J limit script W 0 item (setup_rest sections base log catalog os) name at (rests catalog') refl refl next judged)
+
+-- A SCRIPT OF A SETUP AND ONE SESSION
+-- without an order, the setup's turns and then the session's are the run
+pub alone_stepped : {K D C Q X Y : Type 0} (J : Judges K D C Q X Y) (empty : K) (limit : ℕ) (script : Script) (setup session : Section) (w w' : World K) → script.sections ≡ setup ∷ session ∷ [] → script.order ≡ []
+    → Turns J limit script (first_world script empty) (setup_turns script) w → Turns J limit script w (replicate (length session.items) 1) w' → Stepped J empty limit script (transcript_of J script w')
+alone_stepped J empty limit script setup session w w' e none t u = record {
+  last = w';
+  turns = turns_join J limit script (first_world script empty) w w' (setup_turns script) (script.order ++ last_turns script) t
+      (subst (λ ns. Turns J limit script w (ns ++ last_turns script) w') (sym none)
+      (subst (λ ss. Turns J limit script w (run_out 1 (drop 1 ss)) w') (sym e)
+      (subst (λ ns. Turns J limit script w ns w') (sym (append-nil (replicate (length session.items) 1))) u)));
+  is_transcript = refl;
+}
