@@ -10,12 +10,13 @@ use Rattle.pg_script.specs.declared.script.Section.{Section}
 use Rattle.pg_script.specs.declared.script.Script.{Script}
 use Rattle.pg_script.specs.declared.outcome.Outcome.{Outcome}
 use Rattle.pg_script.specs.declared.outcome.Outcome.TheVariants.{Defined}
+use Rattle.pg_script.specs.declared.transcript.Transcript.{Transcript}
 use Rattle.pg_script.specs.Judged.{Judges, Session, Open, Judged}
 use Rattle.pg_script.specs.Session.{printed, raised}
-use Rattle.pg_script.specs.Legal.{items_of}
+use Rattle.pg_script.specs.Legal.{no_section, items_of, setup_of}
 use Rattle.pgq.specs.Core.{Core, Build, pin_count, is_pinned, others, kept, seen_peak, base_after, after_pin, after_release, after_commit, after_mark, after_redefine, first_core}
-use Rattle.pgq.specs.Stepped.{World, Run, no_run, outs_of, session_at, seen_at, now, after_commits, marked, acts, follows_start, is_definition, next_item, Did, Turn, Turns, run_out, setup_turns, last_turns, first_world, transcript_of, Stepped}
-use Rattle.pgq.specs.TurnsJoin.{turns_join}
+use Rattle.pgq.specs.Stepped.{World, Run, no_run, outs_of, session_at, seen_at, now, after_commits, marked, acts, follows_start, is_definition, next_item, Did, Turn, Turns, run_out, setup_turns, last_turns, first_world, section_outs, transcript_of, Stepped}
+use Rattle.pgq.specs.TurnsJoin.{turns_join, turns_one}
 
 -- no pin is held, no build is open, and the peak has counted the current base
 pub record IsAtRest (c : Core) : Type 0 where
@@ -187,8 +188,8 @@ replicate_first : {A : Type 0} (k : ℕ) (a : A) → 0 < k → replicate k a ≡
 replicate_first zero a h = absurd (omega (arith, h))
 replicate_first (suc k) a h = ap (λ m. a ∷ replicate m a) (omega arith)
 
-pub setup_begins : {K : Type 0} (script : Script) (empty : K) → 0 < length script.sections → first_world script empty ≡ setup_world (length script.sections) 0 [] empty []
-setup_begins script empty h = λ i. record { core = first_core (length script.sections + 1) (length script.sections); catalog = empty; runs = replicate_first (length script.sections) no_run h i }
+pub setup_begins : {K : Type 0} (script : Script) (sections : ℕ) (empty : K) → length script.sections ≡ sections → 0 < sections → first_world script empty ≡ setup_world sections 0 [] empty []
+setup_begins script sections empty e h = λ i. record { core = first_core (e i + 1) (e i); catalog = empty; runs = (ap (λ k. replicate k no_run) e ∙ replicate_first sections no_run h) i }
 
 module _ {K D C Q X Y : Type 0} (J : Judges K D C Q X Y) (limit : ℕ) (script : Script) (sections base : ℕ) (log : List Commit) (catalog : K) (os : List Outcome) (item : Item) where
   abbrev W : World K
@@ -221,3 +222,33 @@ alone_stepped J empty limit script setup session w w' e none t u = record {
       (subst (λ ns. Turns J limit script w ns w') (sym (append-nil (replicate (length session.items) 1))) u)));
   is_transcript = refl;
 }
+
+-- the transcript of such a run
+abbrev pub alone_transcript : {K D C Q X Y : Type 0} → Judges K D C Q X Y → Script → Section → Section → List Commit → K → List Outcome → List Outcome → Transcript
+alone_transcript J script setup session log catalog os answers = record {
+  has_setup = script.has_setup;
+  sections = record { name = setup.name; outcomes = os; rolled_back = false } ∷ record { name = session.name; outcomes = answers; rolled_back = false } ∷ [];
+  tables = J.tables catalog;
+  log = log;
+  peak = (1, 0);
+}
+
+-- a setup of statements alone, and a session of one statement that adds nothing and leaves no transaction open
+pub alone_run : {K D C Q X Y : Type 0} (J : Judges K D C Q X Y) (empty : K) (limit : ℕ) (script : Script) (setup session : Section) (item : Item) (base : ℕ) (log : List Commit) (catalog : K) (os : List Outcome) (o : Outcome) → script.sections ≡ setup ∷ session ∷ [] → script.order ≡ [] → session.items ≡ item ∷ []
+    → Turns J limit script (first_world script empty) (setup_turns script) (setup_world 2 base log catalog os)
+    → Judged J (now limit (setup_world 2 base log catalog os).core (outs_of (setup_world 2 base log catalog os).runs) [] 1) 1 (setup_of log) (record { open_ = None; catalog = catalog }) item o (record { open_ = None; catalog = catalog })
+    → is_definition o ≡ false → printed o ≡ [] → length log ≤ base + 256
+    → Stepped J empty limit script (alone_transcript J script setup session log catalog os (o ∷ []))
+alone_run {K} J empty limit script setup session item base log catalog os o e none single t judged plain prints room =
+    let w : World K = setup_world 2 base log catalog os in
+    let w' : World K = record { core = counted (record w.core { log = log ++ [] }) 1; catalog = catalog; runs = slice_set w.runs 1 (record { outs = o ∷ []; open_ = None }) } in
+    let next : slice_get (items_of script 1) 0 ≡ Some item = ap (λ (ss : List Section). slice_get (get_or ss 1 no_section).items 0) e ∙ ap (λ is. slice_get is 0) single in
+    let did : Did J limit script w 1 w' = did_alone J limit script w 1 item (setup_rest 2 base log catalog os) o [] (record { open_ = None; catalog = catalog }) refl plain next judged (sym (ap length prints)) (omega (arith, room)) in
+    let u : Turns J limit script w (replicate (length session.items) 1) w' = subst (λ is. Turns J limit script w (replicate (length is) 1) w') (sym single) (turns_one J limit script w w' 1 (inr did)) in
+    subst (Stepped J empty limit script) (λ i. record {
+      has_setup = script.has_setup;
+      sections = section_outs (e i) w'.runs;
+      tables = J.tables catalog;
+      log = append-nil log i;
+      peak = (1, 0);
+    }) (alone_stepped J empty limit script setup session w w' e none t u)

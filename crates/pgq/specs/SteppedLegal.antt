@@ -59,11 +59,12 @@ module _ {K D C Q X Y : Type 0} (J : Judges K D C Q X Y) (empty : K) (limit : �
   abbrev T : World K → ℕ → World K → Type 0
   T w n w' = Turn J limit script w n w'
 
-  session_turn : (w w' : World K) (n : ℕ) → (n ≡ 0 → ⊥) → Good w → T w n w' → Good w'
+  -- a turn keeps what is legal so far
+  pub session_turn : (w w' : World K) (n : ℕ) → (n ≡ 0 → ⊥) → Good w → T w n w' → Good w'
   session_turn w w' n z g (inl i) = subst Good (sym i.1) g
   session_turn w w' n z g (inr d) = subst Good (sym d.becomes) (session_kept J empty limit script w n d.item d.outcome d.added d.session g d.next d.judged d.as_printed (λ e. absurd (z e)) z)
 
-  setup_turn : (w w' : World K) → Good w → InSetup w → T w 0 w' → Good w' × InSetup w'
+  pub setup_turn : (w w' : World K) → Good w → InSetup w → T w 0 w' → Good w' × InSetup w'
   setup_turn w w' g i (inl h) = (subst Good (sym h.1) g, subst InSetup (sym h.1) i)
   setup_turn w w' g i (inr d) =
       let k = setup_kept J empty limit script w 0 d.item d.outcome d.added d.session g d.next d.judged d.as_printed (λ e. i.exact) refl i in
@@ -158,7 +159,7 @@ module _ {K D C Q X Y : Type 0} (J : Judges K D C Q X Y) (empty : K) (limit : �
   alone : (m : ℕ) → get_or First.runs m no_run ≡ no_run
   alone m = all_alike (length script.sections) m no_run
 
-  first_good : Good First × InSetup First
+  pub first_good : Good First × InSetup First
   first_good = (
     record {
       lawful = record { each = tt; within = omega arith };
@@ -231,4 +232,3 @@ module _ {K D C Q X Y : Type 0} (J : Judges K D C Q X Y) (empty : K) (limit : �
         grown_all w w' (n ∷ ns) m z g t =
             let x = grown w t.0 n m g t.1 in
             let y = grown_all t.0 w' ns m z.1 (session_turn w t.0 n z.0 g t.1) t.2 in omega (arith, x, y)
-
