@@ -1,12 +1,12 @@
 -- What one item's events do to the core: to its log, its base, its pins and its peak.
 use Rattle.std.proofs.Common.{◌≡◌, ℕ, ◌+◌, ◌-◌, ◌<◌, ◌≤◌, ◌==◌, Bool, true, false, cond, List, [], ◌∷◌, ◌++◌, length, get_or, inl, inr, refl, sym, subst, ap, ◌∙◌, arith, length-append, append_assoc, append-nil}
 use Rattle.std.proofs.lemmas.List.{get_or-set_same, get_or-set_other, length-set}
-use Rattle.std.proofs.lemmas.Bool.{cases_eq, eq-eqb}
+use Rattle.std.proofs.lemmas.Bool.{cases_eq, eq-eqb, ne_eqb}
 use Rattle.std.specs.Prelude.{nat_lt, slice_set, is_some}
 use Rattle.std.specs.declared.option.Option.{Option}
 use Rattle.std.specs.declared.option.Option.TheVariants.{Some, None}
 use Rattle.pg_value.specs.declared.write.Commit.{Commit}
-use Rattle.pgq.specs.Core.{Core, pin_count, is_pinned, others, kept, seen_peak, pin_of, base_after, after_pin, after_release, after_commit, after_mark, after_redefine}
+use Rattle.pgq.specs.Core.{Core, pin_count, is_pinned, others, kept, seen_peak, pin_of, base_after, after_pin, after_commit, after_mark}
 use Rattle.pgq.specs.Stepped.{after_commits, went, defined, ended, marked, acts}
 
 pub record IsNear (c : Core) : Type 0 where
@@ -61,9 +61,7 @@ near_commit c w h = elim (cases_eq (length c.log - c.base) 256) [
       record { low = omega (arith, b, length-append c.log (w ∷ [])); high = omega (arith, b, length-append c.log (w ∷ [])) })
   | inr d ↦ (let b : (after_commit c w).base ≡ c.base = ap (λ x. cond x (length c.log) c.base) (ne_eqb _ _ d) in
       record { low = omega (arith, b, h.low, length-append c.log (w ∷ [])); high = omega (arith, b, d, h.low, h.high, length-append c.log (w ∷ [])) })
-] where
-  ne_eqb : (a b : ℕ) → (a ≡ b → ⊥) → (a == b) ≡ false
-  ne_eqb a b d = grind arith
+]
 
 commits_near : (c : Core) (added : List Commit) → IsNear c → IsNear (after_commits c added)
 commits_near c [] h = h

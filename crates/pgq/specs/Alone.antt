@@ -1,7 +1,7 @@
 -- A statement outside a transaction, while nothing is pinned and nothing is built, leaves the core as it was but for the log, an accepted definition's base and a session's count.
-use Rattle.std.proofs.Common.{◌≡◌, ℕ, zero, suc, ◌+◌, ◌-◌, ◌<◌, ◌≤◌, ◌==◌, Bool, true, false, cond, List, [], ◌∷◌, ◌++◌, length, drop, get_or, ◌⊎◌, inl, inr, refl, sym, subst, ap, ◌∙◌, arith, length-append, append_assoc, append-nil}
-use Rattle.std.proofs.lemmas.Bool.{eq-eqb, le-ltb}
-use Rattle.std.specs.Prelude.{nat_lt, slice_get, slice_set, replicate, is_some, is_none, ◌&&◌, ◌||◌}
+use Rattle.std.proofs.Common.{◌≡◌, ℕ, zero, suc, ◌+◌, ◌-◌, ◌<◌, ◌≤◌, ◌==◌, Bool, true, false, cond, List, [], ◌∷◌, ◌++◌, length, drop, get_or, inr, refl, sym, subst, ap, ◌∙◌, arith, length-append, append_assoc, append-nil}
+use Rattle.std.proofs.lemmas.Bool.{eq-eqb, ne_eqb, le-ltb}
+use Rattle.std.specs.Prelude.{slice_get, slice_set, replicate, is_some, is_none, ◌&&◌, ◌||◌}
 use Rattle.std.specs.declared.option.Option.{Option}
 use Rattle.std.specs.declared.option.Option.TheVariants.{Some, None}
 use Rattle.pg_value.specs.declared.write.Commit.{Commit}
@@ -14,8 +14,8 @@ use Rattle.pg_script.specs.declared.transcript.Transcript.{Transcript}
 use Rattle.pg_script.specs.Judged.{Judges, Session, Open, Judged}
 use Rattle.pg_script.specs.Session.{printed, raised}
 use Rattle.pg_script.specs.Legal.{no_section, items_of, setup_of}
-use Rattle.pgq.specs.Core.{Core, Build, pin_count, is_pinned, others, kept, seen_peak, base_after, after_pin, after_release, after_commit, after_mark, after_redefine, first_core}
-use Rattle.pgq.specs.Stepped.{World, Run, no_run, outs_of, session_at, seen_at, now, after_commits, marked, acts, follows_start, is_definition, next_item, Did, Turn, Turns, run_out, setup_turns, last_turns, first_world, section_outs, transcript_of, Stepped}
+use Rattle.pgq.specs.Core.{Core, Build, pin_count, is_pinned, others, kept, seen_peak, base_after, after_pin, after_release, after_commit, after_redefine, first_core}
+use Rattle.pgq.specs.Stepped.{World, no_run, outs_of, session_at, seen_at, now, after_commits, marked, acts, follows_start, is_definition, next_item, Did, Turn, Turns, run_out, setup_turns, last_turns, first_world, section_outs, transcript_of, Stepped}
 use Rattle.pgq.specs.TurnsJoin.{turns_join, turns_one}
 
 -- no pin is held, no build is open, and the peak has counted the current base
@@ -95,9 +95,7 @@ commits_alone c (w ∷ ws) k h =
     let d : Core = record c { log = c.log ++ w ∷ [] } in
     let same : base_after c.base (length c.log) ≡ c.base = ap (λ b. cond b (length c.log) c.base) (ne_eqb (length c.log - c.base) 256 (λ e. omega (arith, e, h))) in
     let one : after_commit c w ≡ d = ap (λ b. seen_peak (record d { base = b })) same ∙ seen_same d k in
-    ap (λ x. after_commits x ws) one ∙ commits_alone d ws k (omega (arith, h, length-append c.log (w ∷ []))) ∙ ap (λ l. record c { log = l }) (append_assoc c.log (w ∷ []) ws) where
-      ne_eqb : (a b : ℕ) → (a ≡ b → ⊥) → (a == b) ≡ false
-      ne_eqb a b x = grind arith
+    ap (λ x. after_commits x ws) one ∙ commits_alone d ws k (omega (arith, h, length-append c.log (w ∷ []))) ∙ ap (λ l. record c { log = l }) (append_assoc c.log (w ∷ []) ws)
 
 -- a statement that starts, or is refused before a start, adds these commits, and ends
 pub acts_alone : (c : Core) (n : ℕ) (starts : Bool) (added : List Commit) → IsAtRest c → length c.log + length added ≤ c.base + 256 → acts c n starts added false true ≡ counted (record c { log = c.log ++ added }) n

@@ -1,8 +1,8 @@
 -- A turn that answers an item keeps a stepped run legal.
 use Rattle.std.proofs.Common.{◌≡◌, ◌≢◌, ◌==◌, ℕ, ◌+◌, ◌<◌, ◌≤◌, Bool, true, false, cond, List, [], ◌∷◌, ◌++◌, length, take, get_or, ◌⊎◌, inl, inr, refl, sym, subst, ap, ◌∙◌, arith, length-append, max, append-nil}
 use Rattle.std.proofs.lemmas.List.{take_more, get_or-set_same, get_or-set_other, length-set, get_or_past, get_or_append_left, get_or-append-add}
-use Rattle.std.proofs.lemmas.Option.{slice_get-get_or, slice_get_within, get_or_from_slice_get, slice_get_past}
-use Rattle.std.proofs.lemmas.Bool.{cases_eq, cases_lt, eq-eqb}
+use Rattle.std.proofs.lemmas.Option.{none-some, same_Some, slice_get-get_or, slice_get_within, get_or_from_slice_get, slice_get_past}
+use Rattle.std.proofs.lemmas.Bool.{cases_eq, cases_lt, eq-eqb, ne_eqb}
 use Rattle.std.specs.Prelude.{slice_get, is_none, ◌&&◌, ◌||◌}
 use Rattle.std.specs.Option.{unwrap_or}
 use Rattle.std.specs.declared.option.Option.TheVariants.{Some, None}
@@ -26,20 +26,15 @@ use Rattle.pgq.specs.Moves.{Added, nothing, one, judged_added, Opens, shut, goes
 use Rattle.pgq.specs.NowWhole.{Ready, now_whole}
 use Rattle.pgq.specs.SoFar.{first_session, IsPinned, SoFar, InSetup}
 
-none_some : {A : Type 0} (x : A) → None ≡ Some x → ⊥
-none_some x h = cc
-
-some_is : {A : Type 0} (x y : A) → Some x ≡ Some y → x ≡ y
-some_is x y h = cc
-
-pub ne_eqb : (a b : ℕ) → (a ≡ b → ⊥) → (a == b) ≡ false
-ne_eqb a b d = grind arith
+pub take_none : {A : Type 0} (xs : List A) → take 0 xs ≡ []
+take_none [] = refl
+take_none (x ∷ xs) = refl
 
 -- an item that there is stands in a section that there is
 pub has_section : (script : Script) (n k : ℕ) (x : Item) → slice_get (items_of script n) k ≡ Some x → n < length script.sections
 has_section script n k x h = elim (cases_lt n (length script.sections)) [
   | inl lt ↦ lt
-  | inr le ↦ absurd (none_some x (sym (slice_get_past [] k (omega arith)) ∙ ap (λ (s : Section). slice_get s.items k) (sym (get_or_past script.sections n no_section le)) ∙ h))
+  | inr le ↦ absurd (none-some x (sym (slice_get_past [] k (omega arith)) ∙ ap (λ (s : Section). slice_get s.items k) (sym (get_or_past script.sections n no_section le)) ∙ h))
 ]
 
 lawful_added : (limit n : ℕ) (log added : List Commit) (o : Outcome) → IsLawful limit log → Added limit n log added o → IsLawful limit (log ++ added)
@@ -177,24 +172,24 @@ module _ {K D C Q X Y : Type 0} (J : Judges K D C Q X Y) (empty : K) (limit : �
 
   pins_self : Opens J limit w added n (seen_at w n) (session_at w n) s' o → IsPinned L (pin_of w'.core n) s'.open_ (Left (length (outs_of w.runs n) + 1))
   pins_self (shut e) = record {
-    old = λ t p. absurd (none_some t (sym e ∙ p));
+    old = λ t p. absurd (none-some t (sym e ∙ p));
     free = λ p. pin_goes (ap (λ x. is_none x || (length (outs_of w.runs n) + 1 == length (items_of script n))) p);
-    near = λ t p q. absurd (none_some t (sym e ∙ p));
+    near = λ t p q. absurd (none-some t (sym e ∙ p));
   }
   pins_self (goes_on t t' p q f) = record {
-    old = λ x e. let h = (g.pins n).old t p in let v : t'.from ≡ x.from = ap (λ z. z.from) (some_is t' x (sym q ∙ e)) in omega (arith, h, f, v, log_longer);
-    free = λ e. absurd (none_some t' (sym e ∙ q));
+    old = λ x e. let h = (g.pins n).old t p in let v : t'.from ≡ x.from = ap (λ z. z.from) (same_Some t' x (sym q ∙ e)) in omega (arith, h, f, v, log_longer);
+    free = λ e. absurd (none-some t' (sym e ∙ q));
     near = λ x e left. let b = (g.pins n).near t p unfinished in
-        let v : t'.from ≡ x.from = ap (λ z. z.from) (some_is t' x (sym q ∙ e)) in
+        let v : t'.from ≡ x.from = ap (λ z. z.from) (same_Some t' x (sym q ∙ e)) in
         let st : starts_here ≡ false = ap (λ z. is_none z && follows_start o) p in
         let en : ends_here ≡ false = ap (λ z. is_none z || (length (outs_of w.runs n) + 1 == length (items_of script n))) q ∙ not_last left in
         (b.0, ap (λ z. pin_of (acts w.core n z added defines_here ends_here) n) st ∙ ap (λ z. pin_of (acts w.core n false added defines_here z) n) en ∙ acts_pin_on w.core n added defines_here ∙ b.1, omega (arith, b.2, f, v), omega (arith, b.3, f, v));
   }
   pins_self (opens t' p q f h) = record {
-    old = λ x e. let v : t'.from ≡ x.from = ap (λ z. z.from) (some_is t' x (sym q ∙ e)) in omega (arith, f, v, log_longer);
-    free = λ e. absurd (none_some t' (sym e ∙ q));
+    old = λ x e. let v : t'.from ≡ x.from = ap (λ z. z.from) (same_Some t' x (sym q ∙ e)) in omega (arith, f, v, log_longer);
+    free = λ e. absurd (none-some t' (sym e ∙ q));
     near = λ x e left.
-        let v : t'.from ≡ x.from = ap (λ z. z.from) (some_is t' x (sym q ∙ e)) in
+        let v : t'.from ≡ x.from = ap (λ z. z.from) (same_Some t' x (sym q ∙ e)) in
         let st : starts_here ≡ true = ap (λ z. is_none z && follows_start o) p ∙ h in
         let en : ends_here ≡ false = ap (λ z. is_none z || (length (outs_of w.runs n) + 1 == length (items_of script n))) q ∙ not_last left in
         (w.core.base, ap (λ z. pin_of (acts w.core n z added defines_here ends_here) n) st ∙ ap (λ z. pin_of (acts w.core n true added defines_here z) n) en ∙ acts_pin_start w.core n added defines_here seat, omega (arith, f, v, g.near.low), omega (arith, f, v, g.near.high));
@@ -313,10 +308,6 @@ module _ {K D C Q X Y : Type 0} (J : Judges K D C Q X Y) (empty : K) (limit : �
       ∙ ap (λ k. max k (number k o)) (seen_zero z)
       ∙ sym (raised_more 0 (outs_of w.runs n) o)
       ∙ ap (raised 0) (sym (ap (λ r. r.outs) (run_self 0 (sym z))))
-
-  take_none : {A : Type 0} (xs : List A) → take 0 xs ≡ []
-  take_none [] = refl
-  take_none (x ∷ xs) = refl
 
   setup_runs : n ≡ 0 → InSetup w → (m : ℕ) → RunsAt L (outs_of w'.runs) m (first_seen L m) (first_session empty w' m) (take (length (outs_of w'.runs m)) (items_of script m)) (outs_of w'.runs m) (session_at w' m)
   setup_runs z i m = elim (cases_eq m n) [

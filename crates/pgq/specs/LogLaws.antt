@@ -1,27 +1,22 @@
 -- A conflict over a log is the conflict over its prefix up to the commit that it names, and a lawful log stays lawful under one more commit.
 use Rattle.std.proofs.Common.{◌≡◌, ℕ, zero, suc, ◌+◌, ◌-◌, ◌<◌, ◌≤◌, true, false, cond, List, [], ◌∷◌, ◌++◌, length, take, drop, ◌⊎◌, inl, inr, refl, sym, subst, ap, ◌∙◌, arith, append_assoc, append-nil}
 use Rattle.std.proofs.lemmas.List.{drop-take}
+use Rattle.std.proofs.lemmas.Option.{none-some, same_Some}
 use Rattle.std.specs.declared.option.Option.{Option}
 use Rattle.std.specs.declared.option.Option.TheVariants.{Some, None}
 use Rattle.pg_value.specs.declared.write.Write.{Write}
 use Rattle.pg_value.specs.declared.write.Commit.{Commit}
 use Rattle.pg_value.specs.Log.{names, held, first_writer, or_later, conflict, IsLawfulFrom}
 
-none_some : {A : Type 0} (x : A) → None ≡ Some x → ⊥
-none_some x h = cc
-
-some_is : {A : Type 0} (x y : A) → Some x ≡ Some y → x ≡ y
-some_is x y h = cc
-
 writer_bounds : (n : ℕ) (cs : List Commit) (w : Write) (j : ℕ) → first_writer n cs w ≡ Some j → (n ≤ j) × (j < n + length cs)
-writer_bounds n [] w j h = absurd (none_some j h)
+writer_bounds n [] w j h = absurd (none-some j h)
 writer_bounds n (c ∷ cs) w j h = elim (names c.writes.list w) as (λ b. cond b (Some n) (first_writer (n + 1) cs w) ≡ Some j → (n ≤ j) × (j < n + length (c ∷ cs))) [
-  | true ↦ λ e. let s = some_is n j e in (omega (arith, s), omega (arith, s))
+  | true ↦ λ e. let s = same_Some n j e in (omega (arith, s), omega (arith, s))
   | false ↦ λ e. let b = writer_bounds (n + 1) cs w j e in (omega (arith, b.0), omega (arith, b.1))
 ] h
 
 writer_take : (n : ℕ) (cs : List Commit) (w : Write) (j m : ℕ) → first_writer n cs w ≡ Some j → j < n + m → first_writer n (take m cs) w ≡ Some j
-writer_take n [] w j m h le = absurd (none_some j h)
+writer_take n [] w j m h le = absurd (none-some j h)
 writer_take n (c ∷ cs) w j zero h le = let b = writer_bounds n (c ∷ cs) w j h in absurd (omega (arith, b.0, le))
 writer_take n (c ∷ cs) w j (suc m) h le = elim (names c.writes.list w) as (λ b. cond b (Some n) (first_writer (n + 1) cs w) ≡ Some j → cond b (Some n) (first_writer (n + 1) (take m cs) w) ≡ Some j) [
   | true ↦ λ e. e
@@ -38,11 +33,11 @@ writer_none n (c ∷ cs) w (suc m) h = elim (names c.writes.list w) as (λ b. co
 ] h
 
 later_cases : (o : Option ℕ) (w : Write) (later : Option (Write × ℕ)) (x : Write) (j : ℕ) → or_later o w later ≡ Some (x, j) → ((o ≡ Some j) × (w ≡ x)) ⊎ ((o ≡ None) × (later ≡ Some (x, j)))
-later_cases (Some i) w later x j h = let p = some_is (w, i) (x, j) h in inl (ap (λ q. Some q.1) p, ap (λ q. q.0) p)
+later_cases (Some i) w later x j h = let p = same_Some (w, i) (x, j) h in inl (ap (λ q. Some q.1) p, ap (λ q. q.0) p)
 later_cases None w later x j h = inr (refl, h)
 
 pub conflict_bounds : (log : List Commit) (k : ℕ) (ws : List Write) (x : Write) (j : ℕ) → conflict log k ws ≡ Some (x, j) → (k < j) × (j < k + 1 + length (drop k log))
-conflict_bounds log k [] x j h = absurd (none_some _ h)
+conflict_bounds log k [] x j h = absurd (none-some _ h)
 conflict_bounds log k (w ∷ ws) x j h = elim (later_cases (first_writer (k + 1) (drop k log) w) w (conflict log k ws) x j h) [
   | inl p ↦ (let b = writer_bounds (k + 1) (drop k log) w j p.0 in (omega (arith, b.0), b.1))
   | inr p ↦ conflict_bounds log k ws x j p.1
@@ -50,7 +45,7 @@ conflict_bounds log k (w ∷ ws) x j h = elim (later_cases (first_writer (k + 1)
 
 -- j is m past k
 conflict_front : (log : List Commit) (k m : ℕ) (ws : List Write) (x : Write) → conflict log k ws ≡ Some (x, k + m) → conflict (take (k + m) log) k ws ≡ Some (x, k + m)
-conflict_front log k m [] x h = absurd (none_some _ h)
+conflict_front log k m [] x h = absurd (none-some _ h)
 conflict_front log k m (w ∷ ws) x h = elim (later_cases (first_writer (k + 1) (drop k log) w) w (conflict log k ws) x (k + m) h) [
   | inl p ↦ (let f : first_writer (k + 1) (take m (drop k log)) w ≡ Some (k + m) = writer_take (k + 1) (drop k log) w (k + m) m p.0 (omega arith) in
       let g : first_writer (k + 1) (drop k (take (k + m) log)) w ≡ Some (k + m) = ap (λ l. first_writer (k + 1) l w) (drop-take k m log) ∙ f in

@@ -1,5 +1,6 @@
 -- What one answered item adds to the log is what it prints, and a transaction that it leaves open was open or begins with it.
 use Rattle.std.proofs.Common.{◌≡◌, ℕ, ◌+◌, ◌≤◌, true, List, [], ◌∷◌, length, refl, ap, ◌∙◌, arith}
+use Rattle.std.proofs.lemmas.List.{nil_from_length}
 use Rattle.std.specs.declared.option.Option.{Option}
 use Rattle.std.specs.declared.option.Option.TheVariants.{Some, None}
 use Rattle.pg_value.specs.declared.write.Write.{Write}
@@ -16,16 +17,6 @@ use Rattle.pgq.specs.Stepped.{World, now, outs_of, follows_start}
 pub data Added (limit n : ℕ) (log : List Commit) (added : List Commit) (o : Outcome) : Type 0 where
   nothing : added ≡ [] → printed o ≡ [] → Added limit n log added o
   one : (c : Commit) → added ≡ c ∷ [] → c.session ≡ n → printed o ≡ (length log + 1) ∷ [] → c.from ≤ length log → (c.writes.list ≡ [] → ⊥) → conflict log c.from c.writes.list ≡ None → held log + length c.writes.list ≤ limit → Added limit n log added o
-
-empty_is : {A : Type 0} (xs : List A) → length xs ≡ 0 → xs ≡ []
-empty_is [] h = refl
-empty_is (x ∷ xs) h = absurd (omega (arith, h))
-
-none_some : {A : Type 0} (x : A) → None ≡ Some x → ⊥
-none_some x h = cc
-
-some_is : {A : Type 0} (x y : A) → Some x ≡ Some y → x ≡ y
-some_is x y h = cc
 
 pub printed_number : (seen c : ℕ) (o : Outcome) → printed o ≡ c ∷ [] → number seen o ≡ c
 printed_number seen c (Defined name at) h = cc
@@ -53,7 +44,7 @@ refused_printed k (IsAtColumn kind row column) = refl
 
 module _ {K D C Q X Y : Type 0} (J : Judges K D C Q X Y) (limit : ℕ) (w : World K) (added : List Commit) (n seen : ℕ) (s : Session K) where
   quiet : (o p : Outcome) → o ≡ p → printed p ≡ [] → length added ≡ length (printed o) → Added limit n w.core.log added o
-  quiet o p e h l = let q : printed o ≡ [] = ap printed e ∙ h in nothing (empty_is added (l ∙ ap length q)) q
+  quiet o p e h l = let q : printed o ≡ [] = ap printed e ∙ h in nothing (nil_from_length added (l ∙ ap length q)) q
 
   ends_added : (tables : List (List ℕ)) (k : ℕ) (ws : List Write) (accepted : ℕ → Outcome) (o : Outcome) → ((c : ℕ) → printed (accepted c) ≡ c ∷ []) → length added ≡ length (printed o) → Ends (now limit w.core (outs_of w.runs) added n) tables n seen k ws accepted o → Added limit n w.core.log added o
   ends_added tables k ws accepted o a l (logged c commit p i e) = one commit p.0 i.session (ap printed e ∙ a c ∙ ap (λ x. x ∷ []) p.1) p.2 p.3 p.4 p.5

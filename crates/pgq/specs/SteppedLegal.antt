@@ -1,35 +1,28 @@
 -- The transcript of every stepped run is legal.
 use Rattle.std.proofs.Common.{◌≡◌, ◌==◌, ℕ, zero, suc, ◌+◌, ◌<◌, ◌≤◌, Bool, true, false, cond, List, [], ◌∷◌, ◌++◌, length, map, take, drop, get_or, ◌⊎◌, inl, inr, refl, sym, subst, ap, ◌∙◌, arith, length-append}
 use Rattle.std.proofs.lemmas.List.{take_all, drop-drop, get_or-drop, length-drop, get_or-replicate, length-replicate, get_or-set_same, get_or-set_other, get_or_past}
-use Rattle.std.proofs.lemmas.Option.{slice_get_within, slice_get-get_or}
-use Rattle.std.proofs.lemmas.Bool.{cases_eq, cases_lt}
+use Rattle.std.proofs.lemmas.Option.{none-some, slice_get_within, slice_get-get_or}
+use Rattle.std.proofs.lemmas.Bool.{cases_eq, cases_lt, ne_eqb}
 use Rattle.std.specs.Prelude.{slice_get, replicate, is_some}
 use Rattle.std.specs.declared.option.Option.{Option}
 use Rattle.std.specs.declared.option.Option.TheVariants.{Some, None}
-use Rattle.pg_script.specs.declared.script.Item.{Item}
 use Rattle.pg_script.specs.declared.script.Section.{Section}
 use Rattle.pg_script.specs.declared.script.Script.{Script}
 use Rattle.pg_script.specs.declared.outcome.Outcome.{Outcome}
 use Rattle.pg_script.specs.declared.transcript.SectionOut.{SectionOut}
 use Rattle.pg_script.specs.declared.transcript.Transcript.{Transcript}
-use Rattle.pg_script.specs.Judged.{Judges, Session, Waits}
+use Rattle.pg_script.specs.Judged.{Judges, Session}
 use Rattle.pg_script.specs.Session.{whole, Runs, raised, NumbersWithin, all_printed}
 use Rattle.pg_script.specs.Legal.{no_section, items_of, no_answers, outcomes_of, setup_of, IsLegalSection, Legal}
 use Rattle.pgq.specs.Core.{pin_of}
 use Rattle.pgq.specs.Stepped.{World, Run, no_run, outs_of, session_at, first_seen, moved, IsIdle, Turn, Turns, run_out, setup_turns, last_turns, first_world, section_outs, transcript_of, Stepped, AreSessions, Earlier}
 use Rattle.pgq.specs.TurnsJoin.{turns_split}
 use Rattle.pgq.specs.SoFar.{first_session, IsPinned, SoFar, InSetup}
-use Rattle.pgq.specs.KeepsLegal.{session_kept, setup_kept, has_section, ne_eqb}
-
-none_some : {A : Type 0} (x : A) → None ≡ Some x → ⊥
-none_some x h = cc
-
-some_is : {A : Type 0} (x y : A) → Some x ≡ Some y → x ≡ y
-some_is x y h = cc
+use Rattle.pgq.specs.KeepsLegal.{session_kept, setup_kept, has_section, take_none}
 
 get_none : {A : Type 0} (xs : List A) (k : ℕ) → k < length xs → slice_get xs k ≡ None → ⊥
 get_none [] k lt h = omega (arith, lt)
-get_none (x ∷ xs) k lt h = none_some (get_or (x ∷ xs) k x) (sym h ∙ slice_get-get_or (x ∷ xs) k x lt)
+get_none (x ∷ xs) k lt h = none-some (get_or (x ∷ xs) k x) (sym h ∙ slice_get-get_or (x ∷ xs) k x lt)
 
 -- what the sections print is what they answered
 outcomes_are : (sections : List Section) (runs : List Run) → length runs ≡ length sections → (n : ℕ) → outcomes_of (section_outs sections runs) n ≡ outs_of runs n
@@ -152,10 +145,6 @@ module _ {K D C Q X Y : Type 0} (J : Judges K D C Q X Y) (empty : K) (limit : �
   abbrev First : World K
   First = first_world script empty
 
-  no_take : {A : Type 0} (xs : List A) → take 0 xs ≡ []
-  no_take [] = refl
-  no_take (x ∷ xs) = refl
-
   alone : (m : ℕ) → get_or First.runs m no_run ≡ no_run
   alone m = all_alike (length script.sections) m no_run
 
@@ -170,10 +159,10 @@ module _ {K D C Q X Y : Type 0} (J : Judges K D C Q X Y) (empty : K) (limit : �
       heard = λ m. subst (λ (r : Run). NumbersWithin 0 0 r.outs) (sym (alone m)) tt;
       fits = λ m. subst (λ (r : Run). length r.outs ≤ length (items_of script m)) (sym (alone m)) (omega arith);
       runs = λ m. subst (λ (r : Run). Runs J (whole limit [] (outs_of First.runs) m) m (first_seen [] m) (first_session empty First m) (take (length r.outs) (items_of script m)) r.outs (record { open_ = r.open_; catalog = empty })) (sym (alone m))
-          (subst (λ is. Runs J (whole limit [] (outs_of First.runs) m) m (first_seen [] m) (first_session empty First m) is [] (record { open_ = None; catalog = empty })) (sym (no_take (items_of script m)))
+          (subst (λ is. Runs J (whole limit [] (outs_of First.runs) m) m (first_seen [] m) (first_session empty First m) is [] (record { open_ = None; catalog = empty })) (sym (take_none (items_of script m)))
           (same_either (m == 0)));
       pins = λ m. subst (λ (r : Run). IsPinned [] (pin_of First.core m) r.open_ (length r.outs < length (items_of script m))) (sym (alone m))
-          (record { old = λ t e. absurd (none_some t e); free = λ e. all_alike (length script.sections + 1) m None; near = λ t e l. absurd (none_some t e) });
+          (record { old = λ t e. absurd (none-some t e); free = λ e. all_alike (length script.sections + 1) m None; near = λ t e l. absurd (none-some t e) });
       entries = λ m. ap (λ (r : Run). all_printed r.outs) (sym (alone m));
       setup_low = omega arith;
       setup_first = λ c commit h le. absurd (let b = slice_get_within [] c commit h in omega (arith, b));

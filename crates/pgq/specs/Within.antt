@@ -6,7 +6,7 @@ use Rattle.pg_value.specs.declared.write.Commit.{Commit}
 use Rattle.pg_value.specs.Tables.{Tables}
 use Rattle.pg_script.specs.declared.script.Item.{Item}
 use Rattle.pg_script.specs.declared.outcome.Outcome.{Outcome}
-use Rattle.pg_script.specs.Judged.{Judges, History, Session, Open, IsCommit, Judged, Under, Ends, logged, conflicted, filled, unread, already_open, begun, commit_not_open, rollback_not_open, rolled_back, commit_empty, committed, defines_in_session, defines_in_transaction, define_fault, defined, change_fault, change_stopped, changed, changed_none, changed_alone, query_fault, answered, waited}
+use Rattle.pg_script.specs.Judged.{Judges, History, Session, Open, Judged, Under, Ends, logged, conflicted, filled, unread, already_open, begun, commit_not_open, rollback_not_open, rolled_back, commit_empty, committed, defines_in_session, defines_in_transaction, define_fault, defined, change_fault, change_stopped, changed, changed_none, changed_alone, query_fault, answered, waited}
 
 -- the version of the open transaction, or one that a start may fix
 abbrev pub IsFrom : {K : Type 0} → History → ℕ → Session K → ℕ → Type 0
