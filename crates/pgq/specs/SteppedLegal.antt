@@ -52,7 +52,7 @@ module _ {K D C Q X Y : Type 0} (J : Judges K D C Q X Y) (empty : K) (limit : �
   abbrev T : World K → ℕ → World K → Type 0
   T w n w' = Turn J limit script w n w'
 
-  -- a turn keeps what is legal so far
+  -- a session's turn, and the setup's, keep what is legal so far
   pub session_turn : (w w' : World K) (n : ℕ) → (n ≡ 0 → ⊥) → Good w → T w n w' → Good w'
   session_turn w w' n z g (inl i) = subst Good (sym i.1) g
   session_turn w w' n z g (inr d) = subst Good (sym d.becomes) (session_kept J empty limit script w n d.item d.outcome d.added d.session g d.next d.judged d.as_printed (λ e. absurd (z e)) z)
@@ -148,6 +148,7 @@ module _ {K D C Q X Y : Type 0} (J : Judges K D C Q X Y) (empty : K) (limit : �
   alone : (m : ℕ) → get_or First.runs m no_run ≡ no_run
   alone m = all_alike (length script.sections) m no_run
 
+  -- nothing has been answered, and that is legal
   pub first_good : Good First × InSetup First
   first_good = (
     record {
@@ -206,6 +207,8 @@ module _ {K D C Q X Y : Type 0} (J : Judges K D C Q X Y) (empty : K) (limit : �
     peak = g.peak;
   }
 
+  -- In every script that is accepted a wait names an earlier section and one of its items, and the order names sessions.
+  -- A number in the order that is no section's does nothing, so nothing is asked of it.
   pub stepped_legal : Earlier J script → AreSessions script.order → (t : Transcript) → Stepped J empty limit script t → Legal J empty limit script t
   stepped_legal early order t s =
       let a = turns_split J limit script First s.last (setup_turns script) (script.order ++ last_turns script) s.turns in
