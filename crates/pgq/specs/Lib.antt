@@ -2,3 +2,15 @@ pub mod Core
 pub mod Stepped
 pub mod Form
 pub mod Reading
+pub mod LogLaws
+pub mod Within
+pub mod Numbers
+pub mod Grows
+pub mod NowWhole
+pub mod Acts
+pub mod Moves
+pub mod SoFar
+pub mod KeepsLegal
+pub mod TurnsJoin
+pub mod SteppedLegal
+pub mod Alone
