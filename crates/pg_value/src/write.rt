@@ -17,6 +17,14 @@ pub struct Write {
     pub row: Option<Row>,
 }
 
+/// A row that a table holds, beside its key.
+#[derive(Debug, Drop)]
+pub struct Stored {
+    pub table: TableNo,
+    pub key: Key,
+    pub row: Row,
+}
+
 /// Why a write was not put. Either way it is handed back, and the writes are as before.
 #[derive(Debug, Drop)]
 pub enum PutFault {

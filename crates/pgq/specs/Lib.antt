@@ -14,3 +14,5 @@ pub mod KeepsLegal
 pub mod TurnsJoin
 pub mod SteppedLegal
 pub mod Alone
+pub mod Lines
+pub mod Language
