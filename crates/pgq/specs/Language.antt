@@ -48,6 +48,11 @@ pub record IsRead (text : List ℕ) (item : Item) (tokens : List Token) (from : 
   pub is_item : item ≡ Sql from to
   pub lexed : Tokens from (part_of text from to) tokens
 
+-- where an item's statement begins
+abbrev pub start_of : Item → ℕ
+start_of (Sql from to) = from
+start_of (After section n) = 0
+
 pub data Definition : Type 0 where
   OfTable : (t : TableForm) → Definition
   OfGraph : (g : GraphForm) → Definition

@@ -16,3 +16,6 @@ pub mod SteppedLegal
 pub mod Alone
 pub mod Lines
 pub mod Language
+pub mod Setup
+pub mod Hop
+pub mod Rows
