@@ -16,7 +16,7 @@ use Rattle.pg_script.specs.Session.{printed, raised}
 use Rattle.pg_script.specs.Legal.{no_section, items_of, setup_of}
 use Rattle.pgq.specs.Core.{Core, Build, pin_count, is_pinned, others, kept, seen_peak, base_after, after_pin, after_release, after_commit, after_redefine, first_core}
 use Rattle.pgq.specs.Stepped.{World, no_run, outs_of, session_at, seen_at, now, after_commits, marked, acts, follows_start, is_definition, next_item, Did, Turn, Turns, run_out, setup_turns, last_turns, first_world, section_outs, transcript_of, Stepped}
-use Rattle.pgq.specs.TurnsJoin.{turns_join, turns_one}
+use Rattle.pgq.specs.TurnsJoin.{turns_join, turns_one, turns_more}
 
 -- no pin is held, no build is open, and the peak has counted the current base
 pub record IsAtRest (c : Core) : Type 0 where
@@ -207,6 +207,10 @@ module _ {K D C Q X Y : Type 0} (J : Judges K D C Q X Y) (limit : ℕ) (script :
       → Judged J (now limit W.core (outs_of W.runs) [] 0) 0 (raised 0 os) (rests catalog) item (Defined name at) (rests catalog')
       → Turn J limit script W 0 (setup_world sections (length log) log catalog' (os ++ Defined name at ∷ []))
   setup_turn_defining name at catalog' next judged = inr (did_defining J limit script W 0 item (setup_rest sections base log catalog os) name at (rests catalog') refl refl next judged)
+
+-- so many turns as outcomes, and the turn of one more
+pub setup_more : {K D C Q X Y : Type 0} (J : Judges K D C Q X Y) (limit : ℕ) (script : Script) (first w w' : World K) (os : List Outcome) (o : Outcome) → Turns J limit script first (replicate (length os) 0) w → Turn J limit script w 0 w' → Turns J limit script first (replicate (length (os ++ o ∷ [])) 0) w'
+setup_more J limit script first w w' os o t u = let e : suc (length os) ≡ length (os ++ o ∷ []) = omega (arith, length-append os (o ∷ [])) in subst (λ k. Turns J limit script first (replicate k 0) w') e (turns_more J limit script first w w' 0 (length os) t u)
 
 -- A SCRIPT OF A SETUP AND ONE SESSION
 -- without an order, the setup's turns and then the session's are the run
