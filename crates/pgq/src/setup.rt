@@ -1,4 +1,4 @@
-ghost use Rattle.std.specs.Prelude.{◌≡◌, ◌<◌, ◌≤◌, ◌+◌, ◌^◌, [], ◌∷◌, ◌++◌, take, length, IfOk, OnOk};
+ghost use Rattle.std.specs.Prelude.{◌≡◌, ◌<◌, ◌≤◌, ◌+◌, ◌^◌, [], ◌∷◌, ◌++◌, take, length, slice_get, IfOk, OnOk, IsTrue, ◌≢◌, Some};
 ghost use Rattle.pg_keyed.specs.Keyed.{Ascends, Sought};
 ghost use Rattle.pg_value.specs.Order.{key_cmp};
 ghost use Rattle.pg_value.specs.TablesLaws.{key_of};
@@ -12,7 +12,7 @@ use crate::cursor::Unread;
 use crate::form::{InsertForm, NumberForm, TableForm};
 use pg_script::{Item, Outcome};
 use pg_value::{
-    Commit, Key, List, Row, Stored, TableNo, Value, Write, Writes, copy_key, copy_row, order_keys,
+    Commit, Key, List, Row, Stored, TableNo, Text, Value, Write, Writes, copy_key, copy_row, order_keys,
 };
 use std::alloc::Global;
 
@@ -118,33 +118,47 @@ fn commit_of(alloc: Global, from: u64, write: Write) -> Result<Commit, Unread>
     }
 }
 
+/// The item at a place.
+fn item_at(items: &List<Item>, at: usize) -> Result<&Item, Unread>
+    ensures { IfOk result (λ item. slice_get items.now at ≡ Some item.now) }
+{
+    match items.get(at) {
+        Some(item) => Ok(item),
+        None => Err(Unread::Form),
+    }
+}
+
+fn have_other_names(vertex: &TableForm, edge: &TableForm) -> bool
+    ensures { IsTrue result → vertex.now.name ≢ edge.now.name }
+{
+    vertex.name.as_str() != edge.name.as_str()
+}
+
 /// The tables and the graph of the first three items.
-fn begin(alloc: Global, text: &[u8], items: &[Item]) -> Result<Setup, Unread>
+fn begin(alloc: Global, text: &[u8], items: &List<Item>) -> Result<Setup, Unread>
     requires { length text.now < 2 ^ 32 }
     ensures begun { IfOk result (IsSetup text.now items.now) }
     ensures three { IfOk result (λ s. length s.outcomes ≡ 3) }
 {
-    match items {
-        [first, second, third, ..] => {
-            let vertex = table(alloc, text, first)?;
-            let edge = table(alloc, text, second)?;
-            if vertex.name.as_str() == edge.name.as_str() {
-                return Err(Unread::Form);
-            }
-            let graph = graph(alloc, text, third, &vertex, &edge)?;
-            let outcomes = defined(alloc, &vertex, &edge, &graph)?;
-            Ok(Setup {
-                vertex,
-                edge,
-                graph,
-                vertices: List::new(alloc),
-                edges: List::new(alloc),
-                log: List::new(alloc),
-                outcomes,
-            })
-        }
-        _ => Err(Unread::Form),
+    let first = item_at(items, 0)?;
+    let second = item_at(items, 1)?;
+    let third = item_at(items, 2)?;
+    let vertex = table(alloc, text, first)?;
+    let edge = table(alloc, text, second)?;
+    if !have_other_names(&vertex, &edge) {
+        return Err(Unread::Form);
     }
+    let graph = graph(alloc, text, third, &vertex, &edge)?;
+    let outcomes = defined(alloc, &vertex, &edge, &graph)?;
+    Ok(Setup {
+        vertex,
+        edge,
+        graph,
+        vertices: List::new(alloc),
+        edges: List::new(alloc),
+        log: List::new(alloc),
+        outcomes,
+    })
 }
 
 fn defined(
@@ -156,13 +170,19 @@ fn defined(
     ensures { IfOk result (λ outcomes. outcomes ≡ Outcome.Defined vertex.now.name 0 ∷ Outcome.Defined edge.now.name 0 ∷ Outcome.Defined graph.now.form.name 0 ∷ []) }
 {
     let mut outcomes = List::new(alloc);
-    for name in [&vertex.name, &edge.name, &graph.form.name] {
-        outcomes.push(Outcome::Defined {
-            name: name.copy(alloc)?,
-            at: 0,
-        })?;
-    }
+    outcomes.push(defined_as(alloc, &vertex.name)?)?;
+    outcomes.push(defined_as(alloc, &edge.name)?)?;
+    outcomes.push(defined_as(alloc, &graph.form.name)?)?;
     Ok(outcomes)
+}
+
+fn defined_as(alloc: Global, name: &Text) -> Result<Outcome, Unread>
+    ensures { IfOk result (λ o. o ≡ Outcome.Defined name.now 0) }
+{
+    Ok(Outcome::Defined {
+        name: name.copy(alloc)?,
+        at: 0,
+    })
 }
 
 /// Which table an insert is for, 0 for the vertices and 1 for the edges, where it has a number for each column.
@@ -184,6 +204,7 @@ fn step(alloc: Global, text: &[u8], item: &Item, setup: &mut Setup) -> Result<()
     requires length { length text.now < 2 ^ 32 }
     requires vertices { Ascends key_of key_cmp setup.old.vertices }
     requires edges { Ascends key_of key_cmp setup.old.edges }
+    requires room { length setup.old.log < 256 }
     ensures { OnOk result (HasInserted text.now item.now setup.old setup.new) }
 {
     let form = insert(alloc, text, item)?;
@@ -210,17 +231,19 @@ fn step(alloc: Global, text: &[u8], item: &Item, setup: &mut Setup) -> Result<()
 const MOST_ITEMS: usize = 259;
 
 /// Runs the setup: two tables, a graph over them, and at most 256 rows.
-pub fn run_setup(alloc: Global, text: &[u8], items: &[Item]) -> Result<Setup, Unread>
+pub fn run_setup(alloc: Global, text: &[u8], items: &List<Item>) -> Result<Setup, Unread>
     requires { length text.now < 2 ^ 32 }
     ensures run { IfOk result (IsSetup text.now items.now) }
-    ensures whole { IfOk result (λ s. length s.outcomes ≡ length items.now) }
+    ensures whole { IfOk result (λ s. length items.now ≤ length s.outcomes) }
     ensures few { IfOk result (λ s. length s.log ≤ 256) }
 {
-    if items.len() > MOST_ITEMS {
+    let count = items.len();
+    if count > MOST_ITEMS {
         return Err(Unread::Form);
     }
     let mut setup = begin(alloc, text, items)?;
-    for item in &items[3..] {
+    for at in 3..count {
+        let item = item_at(items, at)?;
         step(alloc, text, item, &mut setup)?;
     }
     Ok(setup)

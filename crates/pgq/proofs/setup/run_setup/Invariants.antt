@@ -1,0 +1,9 @@
+use Rattle.std.proofs.Common.{◌≡◌, length}
+use Rattle.pgq.specs.Setup.{IsSetup}
+use Rattle.pgq.proofs.setup.run_setup.Given as goal
+
+abbrev pub invariant-loop-at : goal.invariant-loop-at
+invariant-loop-at l = record {
+  run : IsSetup l.text l.items l.setup;
+  at : length l.setup.outcomes ≡ l.at;
+}
