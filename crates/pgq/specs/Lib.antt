@@ -16,3 +16,4 @@ pub mod SteppedLegal
 pub mod Alone
 pub mod Lines
 pub mod Language
+pub mod Hop

@@ -3,6 +3,7 @@
 
 mod cursor;
 mod form;
+mod hop;
 mod statement;
 
 fn main() {}
