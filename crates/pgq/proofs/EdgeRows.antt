@@ -1,5 +1,5 @@
 -- The rows that edges give, in any order, are the answer of the query.
-use Rattle.std.proofs.Common.{◌≡◌, ◌==◌, ℕ, zero, suc, Bool, true, false, cond, not, ◌&&◌, ◌||◌, List, [], ◌∷◌, ◌++◌, map, Contains, refl, ap, sym, ◌∙◌, subst, inl, inr}
+use Rattle.std.proofs.Common.{◌≡◌, ◌==◌, ℕ, zero, suc, Bool, true, false, cond, not, ◌&&◌, ◌||◌, List, [], ◌∷◌, map, refl, ap, sym, ◌∙◌, subst, inl, inr}
 use Rattle.std.specs.Prelude.{Option, Some, None, filter_map, option_map, unwrap_or, is_some, slice_get, slice_index_or, IsPermutation}
 use Rattle.std.specs.List.{list_any, cons_option}
 use Rattle.std.specs.Ordering.{is_eq}
@@ -22,7 +22,7 @@ use Rattle.pg_value.specs.Orders.{places}
 use Rattle.pg_value.specs.Compare.{is_null}
 use Rattle.pg_value.specs.Tables.{Stored, Tables, IsInOrder, held_in, stored_at, place_of}
 use Rattle.pg_value.specs.TablesLaws.{stored_in, stored_at_in}
-use Rattle.pg_value.specs.Graph.{Edge, vertices, edges, edges_in, edge_of, edge_between, end_of, elem_of, elem_place, same_elem, value_in}
+use Rattle.pg_value.specs.Graph.{Edge, vertices, edges_in, edge_of, edge_between, end_of, elem_of, elem_place, same_elem, value_in}
 use Rattle.pg_ast.specs.CExprs.{ctree_of}
 use Rattle.pg_ast.specs.Fits.{HasTable}
 use Rattle.pg_ast.specs.Members.{in_nil, in_one}
@@ -30,8 +30,8 @@ use Rattle.pg_ast.specs.Meaning.{OfVars, value_of, property_first}
 use Rattle.pg_ast.specs.Answers.{Answer}
 use Rattle.pg_ast.specs.OneHop.{one_hop_query, one_hop_row, one_hop_vars, AdmitsAll, answer_of, answer_reordered}
 use Rattle.pgq.specs.declared.hop.HopColumn.{HopColumn}
-use Rattle.pgq.specs.Language.{Catalog, GraphEntry, shapes_of, graph_shape, edge_shape, set_of}
-use Rattle.pgq.specs.Hop.{Holds, IsOnlyGraph, IsHopAnswer, hop_column, vertex_named, end_vertex, stored_for, own_value, column_value, hop_row, row_between, edge_row}
+use Rattle.pgq.specs.Language.{Catalog, GraphEntry, shapes_of, graph_shape, set_of}
+use Rattle.pgq.specs.Hop.{IsHopAnswer, hop_column, vertex_named, end_vertex, stored_for, own_value, column_value, hop_row, row_between, edge_row}
 
 -- LISTS
 
