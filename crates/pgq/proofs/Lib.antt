@@ -1,6 +1,7 @@
-pub mod Numbers
+pub mod EdgeRows
 pub mod Listed
+pub mod LogOfOnes
+pub mod Numbers
 pub mod Positions
 pub mod Rows
-pub mod LogOfOnes
 pub mod SetupLaws

@@ -1,0 +1,13 @@
+use Rattle.std.proofs.Common.{[], ◌∷◌, rules}
+use Rattle.std.proofs.lemmas.Fn.{always_returns_same}
+use Rattle.pg_keyed.specs.Searches.{sought}
+use Rattle.pg_value.specs.Order.{key_cmp}
+use Rattle.pg_value.specs.Orders.{keys}
+use Rattle.pg_value.specs.TablesLaws.{key_of}
+use Rattle.pgq.proofs.hop.seek.Goals as goal
+
+pub returns : goal.returns
+returns c =
+    let facts = c.binary_search_by.ensures in
+    sought key_of key_cmp keys (c.args.value.now ∷ []) c.args.vertices.now _ c.requires facts.bound
+    (facts.position (λ s. key_cmp (key_of s) (c.args.value.now ∷ [])) (always_returns_same _ _ _ (λ a r f called. search rules)))
