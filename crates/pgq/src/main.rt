@@ -3,6 +3,7 @@
 
 mod cursor;
 mod form;
+mod lines;
 mod statement;
 
 fn main() {}
