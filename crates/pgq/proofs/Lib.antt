@@ -1,3 +1,4 @@
+pub mod Cuts
 pub mod EdgeRows
 pub mod Listed
 pub mod LogOfOnes

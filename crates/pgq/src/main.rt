@@ -7,6 +7,7 @@ mod form;
 mod hop;
 mod names;
 mod setup;
+mod lines;
 mod statement;
 
 fn main() {}
