@@ -6,6 +6,7 @@ use Rattle.std.specs.List.{prefix_len}
 use Rattle.pg_lex.specs.declared.token.TokenKind.{TokenKind}
 use Rattle.pg_lex.specs.declared.token.TokenKind.TheVariants.{Word, Number, Symbol}
 use Rattle.pg_lex.specs.Bytes.{is_digit, is_letter, is_word_byte, upper, starts}
+use Rattle.pg_lex.specs.Tokens.{Stands}
 
 -- a symbol of one byte
 abbrev pub is_single : ℕ → Bool
@@ -32,3 +33,7 @@ number_at bytes =
 unfoldable pub plain_at : List ℕ → Option (TokenKind × ℕ)
 plain_at [] = None
 plain_at (b ∷ bs) = cond (is_letter b) (Some (word_at (b ∷ bs))) (cond (is_digit b) (number_at (b ∷ bs)) (symbol_at b bs))
+
+-- the bytes begin with that token, of so many bytes
+abbrev pub HasFront : List ℕ → TokenKind × ℕ → Type 0
+HasFront bytes found = (found.1 ≤ length bytes) × Stands found.0 (take found.1 bytes) (drop found.1 bytes)

@@ -72,11 +72,11 @@ symbol_class bytes h = other_is (front_class bytes) (found_is (λ s. is_other (f
 pub digit_no_letter : (b : ℕ) → is_digit b ≡ true → is_letter b ≡ false
 digit_no_letter b h = grind (arith, nat_tests)
 
-letter_class : (bytes : List ℕ) → starts is_letter bytes ≡ true → front_class bytes ≡ Some Letter
+pub letter_class : (bytes : List ℕ) → starts is_letter bytes ≡ true → front_class bytes ≡ Some Letter
 letter_class [] h = absurd cc
 letter_class (b ∷ bs) h = rw h refl
 
-digit_class : (bytes : List ℕ) → starts is_digit bytes ≡ true → front_class bytes ≡ Some Digit
+pub digit_class : (bytes : List ℕ) → starts is_digit bytes ≡ true → front_class bytes ≡ Some Digit
 digit_class [] h = absurd cc
 digit_class (b ∷ bs) h = rw (digit_no_letter b h, h) refl
 
