@@ -5,8 +5,11 @@ use Rattle.std.specs.declared.option.Option.TheVariants.{Some, None}
 use Rattle.std.specs.List.{prefix_len}
 use Rattle.pg_lex.specs.declared.token.TokenKind.{TokenKind}
 use Rattle.pg_lex.specs.declared.token.TokenKind.TheVariants.{Word, Number, Symbol}
-use Rattle.pg_lex.specs.Bytes.{is_digit, is_letter, is_word_byte, upper, starts}
-use Rattle.pg_lex.specs.Tokens.{Stands}
+use Rattle.pg_lex.specs.declared.front.Front.{Front}
+use Rattle.pg_lex.specs.declared.front.Front.TheVariants.{Found, Unclosed, Nothing}
+use Rattle.pg_lex.specs.Bytes.{is_digit, is_letter, is_word_byte, upper, starts, starts_with}
+use Rattle.pg_lex.specs.Spelled.{Class, Letter, Digit, Double, Single, Other}
+use Rattle.pg_lex.specs.Tokens.{Stands, NoToken, IsUnclosed, doubled}
 
 -- a symbol of one byte
 abbrev pub is_single : ℕ → Bool
@@ -37,3 +40,20 @@ plain_at (b ∷ bs) = cond (is_letter b) (Some (word_at (b ∷ bs))) (cond (is_d
 -- the bytes begin with that token, of so many bytes
 abbrev pub HasFront : List ℕ → TokenKind × ℕ → Type 0
 HasFront bytes found = (found.1 ≤ length bytes) × Stands found.0 (take found.1 bytes) (drop found.1 bytes)
+
+-- a quoted text that begins behind its opening quote, with its length and the closing quote's; no quote closes it
+abbrev pub IsBody : ℕ → List ℕ → Option (List ℕ × ℕ) → Type 0
+IsBody quote bytes None = (text : List ℕ) × (bytes ≡ doubled quote text)
+IsBody quote bytes (Some found) = (more : List ℕ) × (bytes ≡ doubled quote found.0 ++ quote ∷ more) × (starts_with quote more ≡ false) × (found.1 ≡ length (doubled quote found.0) + 1)
+
+-- what stands at the front
+abbrev pub IsFront : Front → List ℕ → Type 0
+IsFront (Found kind len) bytes = HasFront bytes (kind, len)
+IsFront Unclosed bytes = NoToken bytes × IsUnclosed bytes
+IsFront Nothing bytes = NoToken bytes × (IsUnclosed bytes → ⊥)
+
+-- the bytes begin with no quote
+abbrev pub IsPlain : Option Class → Type 0
+IsPlain (Some Double) = ⊥
+IsPlain (Some Single) = ⊥
+IsPlain _ = Unit {0}

@@ -9,7 +9,7 @@ use Rattle.pg_lex.specs.declared.token.TokenKind.{TokenKind}
 use Rattle.pg_lex.specs.declared.token.TokenKind.TheVariants.{Word, Quoted, Number, Literal, Symbol, End, Bad}
 use Rattle.pg_lex.specs.Bytes.{is_digit, is_letter, is_word_byte, upper, starts}
 use Rattle.pg_lex.specs.Tokens.{Spells, MayEnd, Stands, NoToken, IsUnclosed, is_symbol, symbols}
-use Rattle.pg_lex.specs.Front.{HasFront, is_single, is_pair, symbol_at, word_at, number_at, plain_at}
+use Rattle.pg_lex.specs.Front.{HasFront, IsPlain, is_single, is_pair, symbol_at, word_at, number_at, plain_at}
 use Rattle.pg_lex.specs.Spelled.{Class, Letter, Digit, Double, Single, Other, class_of, front_class, kind_class, spells_class, spells_some, is_short, symbol_short, digit_no_letter, letter_class, digit_class, same_front}
 
 -- ---- fronts that pass a test
@@ -173,12 +173,6 @@ no_symbol b bs o h n kind used rest e l = only_symbol ⊥ used kind (sym (ap Som
     ])
 
 -- ---- all of them
-
--- the bytes begin with no quote
-abbrev pub IsPlain : Option Class → Type 0
-IsPlain (Some Double) = ⊥
-IsPlain (Some Single) = ⊥
-IsPlain _ = Unit {0}
 
 pub plain_closed : (text : List ℕ) → IsPlain (front_class text) → IsUnclosed text → ⊥
 plain_closed text p (inl (t, e)) = subst (λ (l : List ℕ). IsPlain (front_class l)) e p
