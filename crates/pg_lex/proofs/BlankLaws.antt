@@ -82,11 +82,12 @@ so_far_more bytes left at n (bs, e, h) p begins =
     let f = begins.spells in
     let i = begins.is in
     let d : drop n left ≡ drop (at + n) bytes = ap (drop n) p ∙ drop-drop n at bytes in
-    let cut : drop at bytes ≡ bytes_of b ++ drop (at + n) bytes = sym p ∙ sym (take-append-drop n left) ∙ ap (λ (l : List ℕ). l ++ drop n left) f ∙ ap (λ (l : List ℕ). bytes_of b ++ l) d in
-    (bs ++ b ∷ [],
-     take-add at n bytes ∙ ap (λ (l : List ℕ). take at bytes ++ take n l) (sym p) ∙ ap (λ (l : List ℕ). take at bytes ++ l) f ∙ ap (λ (l : List ℕ). l ++ bytes_of b) e
-       ∙ simp (flat_map-append, append-nil),
-     are_more bs b (drop (at + n) bytes) (subst (AreBlank bs) cut h) (subst (IsBlank b) d i))
+    let cut : drop at bytes ≡ bytes_of b ++ drop (at + n) bytes = sym p ∙ sym (take-append-drop n left) ∙ ap (λ (l : List ℕ). l ++ drop n left) f ∙ ap (λ (l : List ℕ). bytes_of b ++ l) d in (
+      bs ++ b ∷ [],
+      take-add at n bytes ∙ ap (λ (l : List ℕ). take at bytes ++ take n l) (sym p) ∙ ap (λ (l : List ℕ). take at bytes ++ l) f ∙ ap (λ (l : List ℕ). l ++ bytes_of b) e
+          ∙ simp (flat_map-append, append-nil),
+      are_more bs b (drop (at + n) bytes) (subst (AreBlank bs) cut h) (subst (IsBlank b) d i),
+    )
 
 pub gap_all : (bytes left : List ℕ) (at : ℕ) → SoFar bytes at → left ≡ drop at bytes → IsClear left → Gap (take at bytes) (drop at bytes)
 gap_all bytes left at (bs, e, h) p c = record { blanks = bs; bytes = e; blank = h; clear = subst IsClear p c }

@@ -52,11 +52,14 @@ letter_word b h = rw h refl
 
 stands_front : (text : List ℕ) (n : ℕ) (k : TokenKind) → n ≤ length text → Spells k (take n text)
     → ((other more : List ℕ) (j : TokenKind) → text ≡ other ++ more → Spells j other → length other ≤ n) → MayEnd k (drop n text) → HasFront text (k, n)
-stands_front text n k w s l m = (w, record {
-  spells = s;
-  longest = λ other more j e h. (let a = l other more j (sym (take-append-drop n text) ∙ e) h in rw (length-take-le n text w) a);
-  ends = m;
-})
+stands_front text n k w s l m = (
+  w,
+  record {
+    spells = s;
+    longest = λ other more j e h. (let a = l other more j (sym (take-append-drop n text) ∙ e) h in rw (length-take-le n text w) a);
+    ends = m;
+  },
+)
 
 -- ---- words and numbers
 
@@ -150,19 +153,19 @@ symbol_within b bs (x ∷ y ∷ z ∷ other) more e h s = absurd cc
 pair_front : (b c : ℕ) (cs : List ℕ) → class_of b ≡ Other → is_pair b c ≡ true → HasFront (b ∷ c ∷ cs) (Symbol (b ∷ c ∷ []), 2)
 pair_front b c cs o h = stands_front (b ∷ c ∷ cs) 2 (Symbol (b ∷ c ∷ [])) (omega arith) (pair_is b c ∙ h, refl)
     (λ other more j e l. only_symbol (length other ≤ 2) other j (sym (ap Some o) ∙ spells_class j (b ∷ c ∷ cs) other more e l) l (λ s.
-      elim (symbol_within b (c ∷ cs) other more e s (symbol_short other s)) [
-        | inl w ↦ omega arith
-        | inr w ↦ omega (arith, w.3)
-      ]))
+    elim (symbol_within b (c ∷ cs) other more e s (symbol_short other s)) [
+      | inl w ↦ omega arith
+      | inr w ↦ omega (arith, w.3)
+    ]))
     tt
 
 single_front : (b : ℕ) (bs : List ℕ) → class_of b ≡ Other → is_single b ≡ true → ((c : ℕ) (cs : List ℕ) → bs ≡ c ∷ cs → is_pair b c ≡ true → ⊥) → HasFront (b ∷ bs) (Symbol (b ∷ []), 1)
 single_front b bs o h n = stands_front (b ∷ bs) 1 (Symbol (b ∷ [])) (omega arith) (single_is b ∙ h, refl)
     (λ other more j e l. only_symbol (length other ≤ 1) other j (sym (ap Some o) ∙ spells_class j (b ∷ bs) other more e l) l (λ s.
-      elim (symbol_within b bs other more e s (symbol_short other s)) [
-        | inl w ↦ omega arith
-        | inr w ↦ absurd (n w.0 w.1 w.2 w.4)
-      ]))
+    elim (symbol_within b bs other more e s (symbol_short other s)) [
+      | inl w ↦ omega arith
+      | inr w ↦ absurd (n w.0 w.1 w.2 w.4)
+    ]))
     tt
 
 no_symbol : (b : ℕ) (bs : List ℕ) → class_of b ≡ Other → is_single b ≡ false → ((c : ℕ) (cs : List ℕ) → bs ≡ c ∷ cs → is_pair b c ≡ true → ⊥) → NoToken (b ∷ bs)
@@ -195,6 +198,7 @@ symbol_found b [] o = by (is_single b) refl where
 symbol_found b (c ∷ cs) o = by (is_pair b c) (is_single b) refl refl where
   other : is_pair b c ≡ false → (d : ℕ) (ds : List ℕ) → c ∷ cs ≡ d ∷ ds → is_pair b d ≡ true → ⊥
   other h d ds e p = both_ways (is_pair b c) h (let q : c ≡ d = cc in rw q p)
+
   by : (t u : Bool) → is_pair b c ≡ t → is_single b ≡ u → IsFound (b ∷ c ∷ cs) (cond t (Some (Symbol (b ∷ c ∷ []), 2)) (cond u (Some (Symbol (b ∷ []), 1)) None))
   by true u h i = pair_front b c cs o h
   by false true h i = single_front b (c ∷ cs) o i (other h)
@@ -212,6 +216,7 @@ plain_found (b ∷ bs) p = by (is_letter b) (is_digit b) refl refl p where
   rest true u a d x y p = absurd p
   rest false true a d x y p = absurd p
   rest false false a d x y p = symbol_found b bs (rw (a, d, x, y) refl)
+
   by : (t u : Bool) → is_letter b ≡ t → is_digit b ≡ u → IsPlain (Some (cond t Letter (cond u Digit (cond (b == 34) Double (cond (b == 39) Single Other))))) → IsFound (b ∷ bs) (cond t (Some (word_at (b ∷ bs))) (cond u (number_at (b ∷ bs)) (symbol_at b bs)))
   by true u a d p = word_front (b ∷ bs) a
   by false true a d p = number_found (b ∷ bs) d

@@ -62,7 +62,7 @@ utf8_after q bytes front more e w u =
     let s : bytes ≡ (front ++ q ∷ []) ++ more = rw e (simp append_assoc) in
     let m : length (front ++ q ∷ []) ≡ length front + 1 = length_push front q in
     subst IsUtf8 (ap (drop (length front + 1)) s ∙ drop_at (front ++ q ∷ []) more (length front + 1) m)
-      (IsUtf8-drop bytes (length front + 1) u (IsCharBoundary-after_ascii bytes (length front) u n (omega arith)))
+    (IsUtf8-drop bytes (length front + 1) u (IsCharBoundary-after_ascii bytes (length front) u n (omega arith)))
 
 -- how long what was read is
 pub closed_len : (q : ℕ) (text out rest : List ℕ) → text ≡ doubled q out ++ q ∷ rest → length text - length rest ≡ length (doubled q out) + 1
@@ -103,22 +103,26 @@ only_literal P other _ c l h = absurd cc
 
 pub literal_found : (bytes text : List ℕ) (n : ℕ) → IsBody 39 bytes (Some (text, n)) → IsFront (Found (Literal text) (n + 1)) (39 ∷ bytes)
 literal_found bytes text n (more, e, s, l) =
-    let c = closed_at 39 bytes text more n e l in
-    (c.0, record {
-      spells = c.1;
-      longest = λ other rest j f h.
-        let f' : 39 ∷ bytes ≡ other ++ rest = sym (take-append-drop (n + 1) (39 ∷ bytes)) ∙ f in
-        only_literal (length other ≤ length (take (n + 1) (39 ∷ bytes))) other j (spells_class j (39 ∷ bytes) other rest f' h) h (λ u k o.
-          let m = shorter 39 bytes text more u rest e s (f' ∙ ap (λ (l : List ℕ). l ++ rest) o) in
-          rw (o, c.1) (omega (arith, length-append (doubled 39 u) (39 ∷ []), length-append (doubled 39 text) (39 ∷ []))));
-      ends = rw c.2 s;
-    })
+    let c = closed_at 39 bytes text more n e l in (
+      c.0,
+      record {
+        spells = c.1;
+        longest = λ other rest j f h.
+            let f' : 39 ∷ bytes ≡ other ++ rest = sym (take-append-drop (n + 1) (39 ∷ bytes)) ∙ f in
+            only_literal (length other ≤ length (take (n + 1) (39 ∷ bytes))) other j (spells_class j (39 ∷ bytes) other rest f' h) h (λ u k o.
+            let m = shorter 39 bytes text more u rest e s (f' ∙ ap (λ (l : List ℕ). l ++ rest) o) in
+            rw (o, c.1) (omega (arith, length-append (doubled 39 u) (39 ∷ []), length-append (doubled 39 text) (39 ∷ []))));
+        ends = rw c.2 s;
+      },
+    )
 
 pub literal_open : (bytes : List ℕ) → IsBody 39 bytes None → IsFront Unclosed (39 ∷ bytes)
-literal_open bytes (t, e) = (λ k used rest f h.
-    only_literal ⊥ used k (spells_class k (39 ∷ bytes) used rest f h.spells) h.spells (λ u j o.
+literal_open bytes (t, e) = (
+  λ k used rest f h.
+      only_literal ⊥ used k (spells_class k (39 ∷ bytes) used rest f h.spells) h.spells (λ u j o.
       not_open 39 bytes t u rest e (f ∙ ap (λ (l : List ℕ). l ++ rest) o) (subst (λ i. MayEnd i rest) j h.ends)),
-    inr (t, ap (λ l. 39 ∷ l) e))
+  inr (t, ap (λ l. 39 ∷ l) e),
+)
 
 -- delimited identifiers
 
@@ -130,22 +134,26 @@ only_name P other _ c l h = absurd cc
 
 pub name_found : (bytes text : List ℕ) (n : ℕ) → IsBody 34 bytes (Some (text, n)) → text ≢ [] → IsFront (Found (Quoted text) (n + 1)) (34 ∷ bytes)
 name_found bytes text n (more, e, s, l) some =
-    let c = closed_at 34 bytes text more n e l in
-    (c.0, record {
-      spells = (some, c.1);
-      longest = λ other rest j f h.
-        let f' : 34 ∷ bytes ≡ other ++ rest = sym (take-append-drop (n + 1) (34 ∷ bytes)) ∙ f in
-        only_name (length other ≤ length (take (n + 1) (34 ∷ bytes))) other j (spells_class j (34 ∷ bytes) other rest f' h) h (λ u k a o.
-          let m = shorter 34 bytes text more u rest e s (f' ∙ ap (λ (l : List ℕ). l ++ rest) o) in
-          rw (o, c.1) (omega (arith, length-append (doubled 34 u) (34 ∷ []), length-append (doubled 34 text) (34 ∷ []))));
-      ends = rw c.2 s;
-    })
+    let c = closed_at 34 bytes text more n e l in (
+      c.0,
+      record {
+        spells = (some, c.1);
+        longest = λ other rest j f h.
+            let f' : 34 ∷ bytes ≡ other ++ rest = sym (take-append-drop (n + 1) (34 ∷ bytes)) ∙ f in
+            only_name (length other ≤ length (take (n + 1) (34 ∷ bytes))) other j (spells_class j (34 ∷ bytes) other rest f' h) h (λ u k a o.
+            let m = shorter 34 bytes text more u rest e s (f' ∙ ap (λ (l : List ℕ). l ++ rest) o) in
+            rw (o, c.1) (omega (arith, length-append (doubled 34 u) (34 ∷ []), length-append (doubled 34 text) (34 ∷ []))));
+        ends = rw c.2 s;
+      },
+    )
 
 pub name_open : (bytes : List ℕ) → IsBody 34 bytes None → IsFront Unclosed (34 ∷ bytes)
-name_open bytes (t, e) = (λ k used rest f h.
-    only_name ⊥ used k (spells_class k (34 ∷ bytes) used rest f h.spells) h.spells (λ u j a o.
+name_open bytes (t, e) = (
+  λ k used rest f h.
+      only_name ⊥ used k (spells_class k (34 ∷ bytes) used rest f h.spells) h.spells (λ u j a o.
       not_open 34 bytes t u rest e (f ∙ ap (λ (l : List ℕ). l ++ rest) o) (subst (λ i. MayEnd i rest) j h.ends)),
-    inl (t, ap (λ l. 34 ∷ l) e))
+  inl (t, ap (λ l. 34 ∷ l) e),
+)
 
 -- a text is empty where it is written with no byte
 doubled_some : (q : ℕ) (u : List ℕ) → length (doubled q u) ≤ 0 → u ≡ []
@@ -165,7 +173,9 @@ name_closed bytes more e s (inl (t, h)) = closed_open 34 bytes more e s t h
 name_closed bytes more e s (inr (t, h)) = let c : Some Double ≡ Some Single = ap front_class h in cc
 
 pub name_empty : (bytes : List ℕ) (n : ℕ) → IsBody 34 bytes (Some ([], n)) → IsFront Nothing (34 ∷ bytes)
-name_empty bytes n (more, e, s, l) = (λ k used rest f h.
-    only_name ⊥ used k (spells_class k (34 ∷ bytes) used rest f h.spells) h.spells (λ u j a o.
+name_empty bytes n (more, e, s, l) = (
+  λ k used rest f h.
+      only_name ⊥ used k (spells_class k (34 ∷ bytes) used rest f h.spells) h.spells (λ u j a o.
       a (doubled_some 34 u (shorter 34 bytes [] more u rest e s (f ∙ ap (λ (l : List ℕ). l ++ rest) o)))),
-    name_closed bytes more e s)
+  name_closed bytes more e s,
+)

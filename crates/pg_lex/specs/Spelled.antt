@@ -131,39 +131,39 @@ closes_first q [] t other more e h = omega arith
 closes_first q (c ∷ u) [] other more e h =
     elim (see q c u) [
       | inl w ↦ (
-        let g : q ∷ q ∷ (doubled q u ++ q ∷ other) ≡ q ∷ more = sym (ap (λ (l : List ℕ). l ++ q ∷ other) w.1) ∙ e in
-        let m : more ≡ q ∷ (doubled q u ++ q ∷ other) = cc in
-        absurd (starts_quote q more (doubled q u ++ q ∷ other) m h))
+          let g : q ∷ q ∷ (doubled q u ++ q ∷ other) ≡ q ∷ more = sym (ap (λ (l : List ℕ). l ++ q ∷ other) w.1) ∙ e in
+          let m : more ≡ q ∷ (doubled q u ++ q ∷ other) = cc in
+          absurd (starts_quote q more (doubled q u ++ q ∷ other) m h))
       | inr w ↦ (
-        let g : c ∷ (doubled q u ++ q ∷ other) ≡ q ∷ more = sym (ap (λ (l : List ℕ). l ++ q ∷ other) w.1) ∙ e in
-        let m : c ≡ q = cc in
-        absurd (w.0 m))
+          let g : c ∷ (doubled q u ++ q ∷ other) ≡ q ∷ more = sym (ap (λ (l : List ℕ). l ++ q ∷ other) w.1) ∙ e in
+          let m : c ≡ q = cc in
+          absurd (w.0 m))
     ]
 closes_first q (c ∷ u) (d ∷ t) other more e h =
     let go = λ (g : doubled q u ++ q ∷ other ≡ doubled q t ++ q ∷ more). closes_first q u t other more g h in
     elim (see q c u) [
       | inl w ↦ elim (see q d t) [
         | inl v ↦ (
-          let g : q ∷ q ∷ (doubled q u ++ q ∷ other) ≡ q ∷ q ∷ (doubled q t ++ q ∷ more) = sym (ap (λ (l : List ℕ). l ++ q ∷ other) w.1) ∙ e ∙ ap (λ (l : List ℕ). l ++ q ∷ more) v.1 in
-          let m : doubled q u ++ q ∷ other ≡ doubled q t ++ q ∷ more = cc in
-          let n = go m in
-          rw (w.1, v.1) (omega arith))
+            let g : q ∷ q ∷ (doubled q u ++ q ∷ other) ≡ q ∷ q ∷ (doubled q t ++ q ∷ more) = sym (ap (λ (l : List ℕ). l ++ q ∷ other) w.1) ∙ e ∙ ap (λ (l : List ℕ). l ++ q ∷ more) v.1 in
+            let m : doubled q u ++ q ∷ other ≡ doubled q t ++ q ∷ more = cc in
+            let n = go m in
+            rw (w.1, v.1) (omega arith))
         | inr v ↦ (
-          let g : q ∷ q ∷ (doubled q u ++ q ∷ other) ≡ d ∷ (doubled q t ++ q ∷ more) = sym (ap (λ (l : List ℕ). l ++ q ∷ other) w.1) ∙ e ∙ ap (λ (l : List ℕ). l ++ q ∷ more) v.1 in
-          let m : d ≡ q = cc in
-          absurd (v.0 m))
-        ]
+            let g : q ∷ q ∷ (doubled q u ++ q ∷ other) ≡ d ∷ (doubled q t ++ q ∷ more) = sym (ap (λ (l : List ℕ). l ++ q ∷ other) w.1) ∙ e ∙ ap (λ (l : List ℕ). l ++ q ∷ more) v.1 in
+            let m : d ≡ q = cc in
+            absurd (v.0 m))
+      ]
       | inr w ↦ elim (see q d t) [
         | inl v ↦ (
-          let g : c ∷ (doubled q u ++ q ∷ other) ≡ q ∷ q ∷ (doubled q t ++ q ∷ more) = sym (ap (λ (l : List ℕ). l ++ q ∷ other) w.1) ∙ e ∙ ap (λ (l : List ℕ). l ++ q ∷ more) v.1 in
-          let m : c ≡ q = cc in
-          absurd (w.0 m))
+            let g : c ∷ (doubled q u ++ q ∷ other) ≡ q ∷ q ∷ (doubled q t ++ q ∷ more) = sym (ap (λ (l : List ℕ). l ++ q ∷ other) w.1) ∙ e ∙ ap (λ (l : List ℕ). l ++ q ∷ more) v.1 in
+            let m : c ≡ q = cc in
+            absurd (w.0 m))
         | inr v ↦ (
-          let g : c ∷ (doubled q u ++ q ∷ other) ≡ d ∷ (doubled q t ++ q ∷ more) = sym (ap (λ (l : List ℕ). l ++ q ∷ other) w.1) ∙ e ∙ ap (λ (l : List ℕ). l ++ q ∷ more) v.1 in
-          let m : doubled q u ++ q ∷ other ≡ doubled q t ++ q ∷ more = cc in
-          let n = go m in
-          rw (w.1, v.1) (omega arith))
-        ]
+            let g : c ∷ (doubled q u ++ q ∷ other) ≡ d ∷ (doubled q t ++ q ∷ more) = sym (ap (λ (l : List ℕ). l ++ q ∷ other) w.1) ∙ e ∙ ap (λ (l : List ℕ). l ++ q ∷ more) v.1 in
+            let m : doubled q u ++ q ∷ other ≡ doubled q t ++ q ∷ more = cc in
+            let n = go m in
+            rw (w.1, v.1) (omega arith))
+      ]
     ]
 
 -- where only doubled quotes stand, none closes
@@ -177,36 +177,36 @@ never_closes q [] (c ∷ u) rest e h =
 never_closes q (d ∷ t) [] rest e h =
     elim (see q d t) [
       | inl v ↦ (
-        let g : q ∷ q ∷ doubled q t ≡ q ∷ rest = sym v.1 ∙ e in
-        let m : rest ≡ q ∷ doubled q t = cc in
-        starts_quote q rest (doubled q t) m h)
+          let g : q ∷ q ∷ doubled q t ≡ q ∷ rest = sym v.1 ∙ e in
+          let m : rest ≡ q ∷ doubled q t = cc in
+          starts_quote q rest (doubled q t) m h)
       | inr v ↦ (
-        let g : d ∷ doubled q t ≡ q ∷ rest = sym v.1 ∙ e in
-        let m : d ≡ q = cc in
-        v.0 m)
+          let g : d ∷ doubled q t ≡ q ∷ rest = sym v.1 ∙ e in
+          let m : d ≡ q = cc in
+          v.0 m)
     ]
 never_closes q (d ∷ t) (c ∷ u) rest e h =
     elim (see q d t) [
       | inl v ↦ elim (see q c u) [
         | inl w ↦ (
-          let g : q ∷ q ∷ doubled q t ≡ q ∷ q ∷ (doubled q u ++ q ∷ rest) = sym v.1 ∙ e ∙ ap (λ (l : List ℕ). l ++ q ∷ rest) w.1 in
-          let m : doubled q t ≡ doubled q u ++ q ∷ rest = cc in
-          never_closes q t u rest m h)
+            let g : q ∷ q ∷ doubled q t ≡ q ∷ q ∷ (doubled q u ++ q ∷ rest) = sym v.1 ∙ e ∙ ap (λ (l : List ℕ). l ++ q ∷ rest) w.1 in
+            let m : doubled q t ≡ doubled q u ++ q ∷ rest = cc in
+            never_closes q t u rest m h)
         | inr w ↦ (
-          let g : q ∷ q ∷ doubled q t ≡ c ∷ (doubled q u ++ q ∷ rest) = sym v.1 ∙ e ∙ ap (λ (l : List ℕ). l ++ q ∷ rest) w.1 in
-          let m : c ≡ q = cc in
-          w.0 m)
-        ]
+            let g : q ∷ q ∷ doubled q t ≡ c ∷ (doubled q u ++ q ∷ rest) = sym v.1 ∙ e ∙ ap (λ (l : List ℕ). l ++ q ∷ rest) w.1 in
+            let m : c ≡ q = cc in
+            w.0 m)
+      ]
       | inr v ↦ elim (see q c u) [
         | inl w ↦ (
-          let g : d ∷ doubled q t ≡ q ∷ q ∷ (doubled q u ++ q ∷ rest) = sym v.1 ∙ e ∙ ap (λ (l : List ℕ). l ++ q ∷ rest) w.1 in
-          let m : d ≡ q = cc in
-          v.0 m)
+            let g : d ∷ doubled q t ≡ q ∷ q ∷ (doubled q u ++ q ∷ rest) = sym v.1 ∙ e ∙ ap (λ (l : List ℕ). l ++ q ∷ rest) w.1 in
+            let m : d ≡ q = cc in
+            v.0 m)
         | inr w ↦ (
-          let g : d ∷ doubled q t ≡ c ∷ (doubled q u ++ q ∷ rest) = sym v.1 ∙ e ∙ ap (λ (l : List ℕ). l ++ q ∷ rest) w.1 in
-          let m : doubled q t ≡ doubled q u ++ q ∷ rest = cc in
-          never_closes q t u rest m h)
-        ]
+            let g : d ∷ doubled q t ≡ c ∷ (doubled q u ++ q ∷ rest) = sym v.1 ∙ e ∙ ap (λ (l : List ℕ). l ++ q ∷ rest) w.1 in
+            let m : doubled q t ≡ doubled q u ++ q ∷ rest = cc in
+            never_closes q t u rest m h)
+      ]
     ]
 
 -- a text is told from what it is written as
@@ -226,27 +226,27 @@ doubled_same q (c ∷ u) (d ∷ t) e =
     elim (see q c u) [
       | inl w ↦ elim (see q d t) [
         | inl v ↦ (
-          let g : q ∷ q ∷ doubled q u ≡ q ∷ q ∷ doubled q t = sym w.1 ∙ e ∙ v.1 in
-          let m : doubled q u ≡ doubled q t = cc in
-          let n = doubled_same q u t m in
-          rw (w.0, v.0, n) refl)
+            let g : q ∷ q ∷ doubled q u ≡ q ∷ q ∷ doubled q t = sym w.1 ∙ e ∙ v.1 in
+            let m : doubled q u ≡ doubled q t = cc in
+            let n = doubled_same q u t m in
+            rw (w.0, v.0, n) refl)
         | inr v ↦ (
-          let g : q ∷ q ∷ doubled q u ≡ d ∷ doubled q t = sym w.1 ∙ e ∙ v.1 in
-          let m : d ≡ q = cc in
-          absurd (v.0 m))
-        ]
+            let g : q ∷ q ∷ doubled q u ≡ d ∷ doubled q t = sym w.1 ∙ e ∙ v.1 in
+            let m : d ≡ q = cc in
+            absurd (v.0 m))
+      ]
       | inr w ↦ elim (see q d t) [
         | inl v ↦ (
-          let g : c ∷ doubled q u ≡ q ∷ q ∷ doubled q t = sym w.1 ∙ e ∙ v.1 in
-          let m : c ≡ q = cc in
-          absurd (w.0 m))
+            let g : c ∷ doubled q u ≡ q ∷ q ∷ doubled q t = sym w.1 ∙ e ∙ v.1 in
+            let m : c ≡ q = cc in
+            absurd (w.0 m))
         | inr v ↦ (
-          let g : c ∷ doubled q u ≡ d ∷ doubled q t = sym w.1 ∙ e ∙ v.1 in
-          let m : doubled q u ≡ doubled q t = cc in
-          let h : c ≡ d = cc in
-          let n = doubled_same q u t m in
-          rw (h, n) refl)
-        ]
+            let g : c ∷ doubled q u ≡ d ∷ doubled q t = sym w.1 ∙ e ∙ v.1 in
+            let m : doubled q u ≡ doubled q t = cc in
+            let h : c ≡ d = cc in
+            let n = doubled_same q u t m in
+            rw (h, n) refl)
+      ]
     ]
 
 pub quoted_same : (q : ℕ) (u t : List ℕ) → quoted q u ≡ quoted q t → u ≡ t
