@@ -1,6 +1,6 @@
 -- Which blanks stand at the front.
 use Rattle.std.proofs.Common.{◌≡◌, ◌≢◌, ℕ, suc, ◌+◌, ◌-◌, ◌≤◌, Bool, true, false, cond, List, [], ◌∷◌, ◌++◌, length, take, drop, get_or, refl, sym, ap, ◌∙◌, subst, arith, inl, inr, ◌⊎◌, append_assoc}
-use Rattle.std.specs.Prelude.{◌&&◌, ◌||◌, ◌==◌}
+use Rattle.std.specs.Prelude.{not, ◌&&◌, ◌||◌, ◌==◌}
 use Rattle.std.specs.List.{list_all, flat_map, prefix_len}
 use Rattle.std.proofs.lemmas.List.{take-append-drop, drop-drop, append-nil, take_all}
 use Rattle.std.proofs.lemmas.List.Concat.{flat_map-append}
@@ -12,19 +12,19 @@ use Rattle.pg_lex.specs.Blanks.{BeginsBlank}
 
 -- what is read as a line is one, and ends there
 abbrev pub no_feed : ℕ → Bool
-no_feed b = cond (b == 10) false true
+no_feed b = not (b == 10)
 
 pub line_is : (bytes : List ℕ) → is_line (take (prefix_len no_feed bytes) bytes) ≡ true
 line_is [] = refl
 line_is (b ∷ bs) = by (b == 10) refl (line_is bs) where
-  by : (t : Bool) → (b == 10) ≡ t → is_line (take (prefix_len no_feed bs) bs) ≡ true → is_line (take (cond (cond t false true) (1 + prefix_len no_feed bs) 0) (b ∷ bs)) ≡ true
+  by : (t : Bool) → (b == 10) ≡ t → is_line (take (prefix_len no_feed bs) bs) ≡ true → is_line (take (cond (not t) (1 + prefix_len no_feed bs) 0) (b ∷ bs)) ≡ true
   by true e h = refl
   by false e h = let one : 1 + prefix_len no_feed bs ≡ suc (prefix_len no_feed bs) = omega arith in rw (one, e) h
 
 pub line_ends : (bytes : List ℕ) → EndsLine (drop (prefix_len no_feed bytes) bytes)
 line_ends [] = inl refl
 line_ends (b ∷ bs) = by (b == 10) refl (line_ends bs) where
-  by : (t : Bool) → (b == 10) ≡ t → EndsLine (drop (prefix_len no_feed bs) bs) → EndsLine (drop (cond (cond t false true) (1 + prefix_len no_feed bs) 0) (b ∷ bs))
+  by : (t : Bool) → (b == 10) ≡ t → EndsLine (drop (prefix_len no_feed bs) bs) → EndsLine (drop (cond (not t) (1 + prefix_len no_feed bs) 0) (b ∷ bs))
   by true e h = inr e
   by false e h = let one : 1 + prefix_len no_feed bs ≡ suc (prefix_len no_feed bs) = omega arith in rw one h
 

@@ -24,14 +24,21 @@ stands_more Bad (b ∷ used) rest h = absurd h.spells
 pub record Read (text left : List ℕ) (at n : ℕ) : Type 0 where
   pub left_is : left ≡ drop at text
   pub within : n ≤ length left
+  pub reach : at + n ≤ length text
   pub gap : Gap (take n left) (drop n left)
+
+pub read_at : (text bytes left : List ℕ) (at n : ℕ) → bytes ≡ text → left ≡ drop at bytes → at ≤ length text → n ≤ length left → Gap (take n left) (drop n left) → Read text left at n
+read_at text bytes left at n e l w r g =
+    let p : left ≡ drop at text = l ∙ ap (drop at) e in
+    record { left_is = p; within = r; reach = omega (arith, ap length p, length-drop at text); gap = g }
 
 rest_is : (text left : List ℕ) (at n : ℕ) → Read text left at n → drop n left ≡ drop (at + n) text
 rest_is text left at n r = ap (drop n) r.left_is ∙ drop-drop n at text
 
-pub found_next : (base at n len : ℕ) (text left : List ℕ) (kind : TokenKind) → Read text left at n → at + n ≤ length text → HasFront (drop (at + n) text) (kind, len)
+pub found_next : (base at n len : ℕ) (text left : List ℕ) (kind : TokenKind) → Read text left at n → HasFront (drop (at + n) text) (kind, len)
     → IsNext base text at (record { kind = kind; from = base + (at + n); to = base + (at + n) + len })
-found_next base at n len text left kind r w f =
+found_next base at n len text left kind r f =
+    let w = r.reach in
     let rest = drop (at + n) text in
     let size : length (take len rest) ≡ len = length-take-le len rest f.0 in
     let some = stands_more kind (take len rest) (drop len rest) f.1 in
@@ -79,9 +86,10 @@ pub end_next : (base at n : ℕ) (text left : List ℕ) → Read text left at n 
 end_next base at n text left r e =
     last_next base at n (base + (at + n)) text left End r refl (omega arith) (omega arith) (drop_all (at + n) text (omega arith), omega arith)
 
-pub bad_next : (base at n : ℕ) (text left : List ℕ) → Read text left at n → at + n ≤ length text → (at + n ≡ length text → ⊥) → NoToken (drop (at + n) text) → (IsUnclosed (drop (at + n) text) → ⊥)
+pub bad_next : (base at n : ℕ) (text left : List ℕ) → Read text left at n → (at + n ≡ length text → ⊥) → NoToken (drop (at + n) text) → (IsUnclosed (drop (at + n) text) → ⊥)
     → IsNext base text at (last_at Bad (base + (at + n)))
-bad_next base at n text left r w e none closed =
+bad_next base at n text left r e none closed =
+    let w = r.reach in
     let some : drop (at + n) text ≢ [] = λ z. e (omega (arith, w, ap length z, length-drop (at + n) text)) in
     last_next base at n (base + (at + n)) text left Bad r refl (omega arith) (omega arith) (some, none, inr (closed, omega arith))
 
@@ -89,9 +97,10 @@ unclosed_some : (bytes : List ℕ) → IsUnclosed bytes → bytes ≢ []
 unclosed_some bytes (inl (t, h)) e = cc
 unclosed_some bytes (inr (t, h)) e = cc
 
-pub unclosed_next : (base at n : ℕ) (text left : List ℕ) → Read text left at n → at + n ≤ length text → NoToken (drop (at + n) text) → IsUnclosed (drop (at + n) text)
+pub unclosed_next : (base at n : ℕ) (text left : List ℕ) → Read text left at n → NoToken (drop (at + n) text) → IsUnclosed (drop (at + n) text)
     → IsNext base text at (last_at Bad (base + length text))
-unclosed_next base at n text left r w none quote =
+unclosed_next base at n text left r none quote =
+    let w = r.reach in
     let some : drop (at + n) text ≢ [] = unclosed_some (drop (at + n) text) quote in
     last_next base at n (base + length text) text left Bad r refl (omega arith) (omega arith) (some, none, inl (quote, omega (arith, length-drop (at + n) text)))
 

@@ -1,6 +1,6 @@
 -- Bytes have one token list.
 use Rattle.std.proofs.Common.{◌≡◌, ◌≢◌, ℕ, ◌+◌, ◌≤◌, Bool, true, false, cond, List, [], ◌∷◌, ◌++◌, length, refl, sym, ap, ◌∙◌, subst, arith, inl, inr, ◌⊎◌, append_assoc}
-use Rattle.std.specs.Prelude.{◌&&◌, ◌||◌, ◌==◌}
+use Rattle.std.specs.Prelude.{not, ◌&&◌, ◌||◌, ◌==◌}
 use Rattle.std.specs.List.{list_all, flat_map}
 use Rattle.std.proofs.lemmas.Bool.{and_parts, both_ways, eqb-true}
 use Rattle.pg_lex.specs.declared.token.Token.{Token}
@@ -27,7 +27,7 @@ lines_once (c ∷ l) [] x y e a s b t = absurd (line_stops c l y x (sym e) a t)
 lines_once (c ∷ l) (d ∷ m) x y e a s b t =
     let h : c ≡ d = cc in
     let g : l ++ x ≡ m ++ y = cc in
-    let k = lines_once l m x y g (and_parts (cond (c == 10) false true) (is_line l) a).1 s (and_parts (cond (d == 10) false true) (is_line m) b).1 t in
+    let k = lines_once l m x y g (and_parts (not (c == 10)) (is_line l) a).1 s (and_parts (not (d == 10)) (is_line m) b).1 t in
     (rw (h, k.0) refl, k.1)
 
 no_dash : (b : ℕ) → b ≡ 45 → is_white b ≡ true → ⊥

@@ -46,7 +46,7 @@ pub bytes_same : (v w : List ℕ) → bytes_eq v w ≡ true → v ≡ w
 bytes_same v w e = (bytes_eq-Decides v w).0 e
 
 -- what a test says of each of these lists it says of a list among them
-found_is : (test : List ℕ → Bool) (ss : List (List ℕ)) (bytes : List ℕ) → list_all test ss ≡ true → list_any (λ s. bytes_eq bytes s) ss ≡ true → test bytes ≡ true
+pub found_is : (test : List ℕ → Bool) (ss : List (List ℕ)) (bytes : List ℕ) → list_all test ss ≡ true → list_any (λ s. bytes_eq bytes s) ss ≡ true → test bytes ≡ true
 found_is test [] bytes h e = absurd cc
 found_is test (s ∷ ss) bytes h e =
     let k = and_parts (test s) (list_all test ss) h in

@@ -1,4 +1,4 @@
-ghost use Rattle.std.specs.Prelude.{◌≡◌, ◌≤◌, ◌<◌, cond, ◌==◌, true, false, length, take, drop};
+ghost use Rattle.std.specs.Prelude.{◌≡◌, ◌≤◌, ◌<◌, not, ◌==◌, length, take, drop};
 ghost use Rattle.std.specs.List.{prefix_len};
 ghost use Rattle.pg_lex.specs.Tokens.{Gap, IsClear};
 ghost use Rattle.pg_lex.specs.Blanks.{BeginsBlank};
@@ -7,7 +7,7 @@ use crate::bytes::is_white;
 
 // The length of the line that begins here, without its line feed.
 fn line_len(bytes: &[u8]) -> usize
-    ensures value { result ≡ prefix_len (λ b. cond (b == 10) false true) bytes.now }
+    ensures value { result ≡ prefix_len (λ b. not (b == 10)) bytes.now }
     ensures within { result ≤ length bytes.now }
 {
     bytes.iter().take_while(|b| **b != b'\n').count()
