@@ -1,12 +1,12 @@
 -- Which blanks stand at the front.
-use Rattle.std.proofs.Common.{◌≡◌, ◌≢◌, ℕ, suc, ◌+◌, ◌-◌, ◌≤◌, Bool, true, false, cond, List, [], ◌∷◌, ◌++◌, length, take, drop, get_or, refl, sym, ap, ◌∙◌, subst, arith, inl, inr, ◌⊎◌, append_assoc}
-use Rattle.std.specs.Prelude.{not, ◌&&◌, ◌||◌, ◌==◌}
-use Rattle.std.specs.List.{list_all, flat_map, prefix_len}
+use Rattle.std.proofs.Common.{◌≡◌, ℕ, suc, ◌+◌, ◌-◌, ◌≤◌, Bool, true, false, cond, List, [], ◌∷◌, ◌++◌, length, take, drop, get_or, refl, sym, ap, ◌∙◌, subst, arith, inl, inr, append_assoc}
+use Rattle.std.specs.Prelude.{not, ◌==◌}
+use Rattle.std.specs.List.{flat_map, prefix_len}
 use Rattle.std.proofs.lemmas.List.{take-append-drop, drop-drop, append-nil, take_all}
 use Rattle.std.proofs.lemmas.List.Concat.{flat_map-append}
 use Rattle.std.proofs.Math.Seq.{take-add}
-use Rattle.std.proofs.lemmas.Bool.{and_parts, both_ways}
-use Rattle.pg_lex.specs.Bytes.{is_white, starts_with}
+use Rattle.std.proofs.lemmas.Bool.{both_ways}
+use Rattle.pg_lex.specs.Bytes.{is_white}
 use Rattle.pg_lex.specs.Tokens.{Blank, White, Comment, bytes_of, is_line, EndsLine, IsBlank, AreBlank, IsClear, Gap}
 use Rattle.pg_lex.specs.Blanks.{BeginsBlank}
 
@@ -90,4 +90,4 @@ so_far_more bytes left at n (bs, e, h) p begins =
     )
 
 pub gap_all : (bytes left : List ℕ) (at : ℕ) → SoFar bytes at → left ≡ drop at bytes → IsClear left → Gap (take at bytes) (drop at bytes)
-gap_all bytes left at (bs, e, h) p c = record { blanks = bs; bytes = e; blank = h; clear = subst IsClear p c }
+gap_all bytes left at (bs, e, h) p c = record { blanks = bs; bytes = e; each = h; clear = subst IsClear p c }

@@ -1,16 +1,15 @@
 -- `plain_at` finds the token at the front, where no quote stands there.
-use Rattle.std.proofs.Common.{◌≡◌, ◌≢◌, ℕ, suc, ◌+◌, ◌≤◌, Bool, true, false, cond, List, [], ◌∷◌, ◌++◌, length, take, drop, map, Option, Some, None, refl, sym, ap, ◌∙◌, subst, arith, inl, inr, ◌⊎◌}
-use Rattle.std.specs.Prelude.{◌&&◌, ◌||◌, ◌==◌, not, MatchOption}
-use Rattle.std.specs.List.{list_all, list_any, prefix_len}
-use Rattle.std.specs.Str.{bytes_eq}
+use Rattle.std.proofs.Common.{◌≡◌, ℕ, suc, ◌+◌, ◌≤◌, Bool, true, false, cond, List, [], ◌∷◌, ◌++◌, length, take, drop, map, Option, Some, None, refl, sym, ap, ◌∙◌, subst, arith, inl, inr, ◌⊎◌}
+use Rattle.std.specs.Prelude.{◌&&◌, ◌||◌, ◌==◌, MatchOption}
+use Rattle.std.specs.List.{list_all, prefix_len}
 use Rattle.std.proofs.lemmas.List.{take-append-drop, length-take-le}
 use Rattle.std.proofs.lemmas.Bool.{and_parts, both_ways}
 use Rattle.pg_lex.specs.declared.token.TokenKind.{TokenKind}
-use Rattle.pg_lex.specs.declared.token.TokenKind.TheVariants.{Word, Quoted, Number, Literal, Symbol, End, Bad}
+use Rattle.pg_lex.specs.declared.token.TokenKind.TheVariants.{Word, Number, Symbol, End, Bad}
 use Rattle.pg_lex.specs.Bytes.{is_digit, is_letter, is_word_byte, upper, starts}
-use Rattle.pg_lex.specs.Tokens.{Spells, MayEnd, Stands, NoToken, IsUnclosed, is_symbol, symbols}
+use Rattle.pg_lex.specs.Tokens.{Spells, MayEnd, Stands, NoToken, IsUnclosed, is_symbol}
 use Rattle.pg_lex.specs.Front.{HasFront, IsPlain, is_single, is_pair, symbol_at, word_at, number_at, plain_at}
-use Rattle.pg_lex.specs.Spelled.{Class, Letter, Digit, Double, Single, Other, class_of, front_class, kind_class, spells_class, spells_some, is_short, symbol_short, digit_no_letter, letter_class, digit_class, same_front}
+use Rattle.pg_lex.specs.Spelled.{Letter, Digit, Double, Single, Other, class_of, front_class, kind_class, spells_class, spells_some, is_short, symbol_short, letter_class, digit_class, same_front}
 
 -- ---- fronts that pass a test
 

@@ -1,18 +1,17 @@
 -- A text in quotes at the front.
-use Rattle.std.proofs.Common.{◌≡◌, ◌≢◌, ℕ, suc, ◌+◌, ◌-◌, ◌<◌, ◌≤◌, Bool, true, false, cond, List, [], ◌∷◌, ◌++◌, length, take, drop, get_or, Option, Some, None, refl, sym, ap, ◌∙◌, subst, arith, inl, inr, ◌⊎◌, append_assoc}
+use Rattle.std.proofs.Common.{◌≡◌, ◌≢◌, ℕ, suc, ◌+◌, ◌-◌, ◌<◌, ◌≤◌, Bool, true, false, cond, List, [], ◌∷◌, ◌++◌, length, take, drop, get_or, Some, None, refl, sym, ap, ◌∙◌, subst, arith, inl, inr, append_assoc}
 use Rattle.std.specs.Prelude.{◌==◌}
-use Rattle.std.proofs.lemmas.List.{take-append-drop, append-nil, take_at, drop_at, length-append, get_or_at, length_push}
+use Rattle.std.proofs.lemmas.List.{take-append-drop, take_at, drop_at, length-append, get_or_at, length_push}
 use Rattle.std.specs.Str.{IsUtf8}
 use Rattle.std.proofs.lemmas.Str.{IsUtf8-drop, IsCharBoundary-after_ascii}
-use Rattle.std.proofs.lemmas.Bool.{both_ways, eqb-true, eq-eqb, ne_eqb}
+use Rattle.std.proofs.lemmas.Bool.{eq-eqb, ne_eqb}
 use Rattle.pg_lex.specs.declared.token.TokenKind.{TokenKind}
-use Rattle.pg_lex.specs.declared.token.TokenKind.TheVariants.{Word, Quoted, Number, Literal, Symbol, End, Bad}
-use Rattle.pg_lex.specs.declared.front.Front.{Front}
+use Rattle.pg_lex.specs.declared.token.TokenKind.TheVariants.{Quoted, Literal, End, Bad}
 use Rattle.pg_lex.specs.declared.front.Front.TheVariants.{Found, Unclosed, Nothing}
 use Rattle.pg_lex.specs.Bytes.{starts_with}
-use Rattle.pg_lex.specs.Tokens.{Spells, MayEnd, Stands, NoToken, IsOpen, IsUnclosed, doubled, quoted}
-use Rattle.pg_lex.specs.Front.{HasFront, IsFront, IsBody}
-use Rattle.pg_lex.specs.Spelled.{Class, Double, Single, front_class, kind_class, spells_class, closes_first, never_closes}
+use Rattle.pg_lex.specs.Tokens.{Spells, MayEnd, IsUnclosed, doubled, quoted}
+use Rattle.pg_lex.specs.Front.{IsFront, IsBody}
+use Rattle.pg_lex.specs.Spelled.{Double, Single, front_class, kind_class, spells_class, closes_first, never_closes}
 
 -- ---- reading on
 

@@ -1,10 +1,10 @@
 -- One token more, and how the token list goes on after it.
-use Rattle.std.proofs.Common.{◌≡◌, ◌≢◌, ℕ, ◌+◌, ◌-◌, ◌<◌, ◌≤◌, Bool, true, false, List, [], ◌∷◌, ◌++◌, length, take, drop, refl, sym, ap, ◌∙◌, subst, arith, inl, inr, ◌⊎◌, append_assoc}
-use Rattle.std.proofs.lemmas.List.{take-append-drop, drop-drop, length-take-le, length-drop, drop_all, nil_from_length}
+use Rattle.std.proofs.Common.{◌≡◌, ◌≢◌, ℕ, ◌+◌, ◌-◌, ◌<◌, ◌≤◌, true, false, List, [], ◌∷◌, ◌++◌, length, take, drop, refl, sym, ap, ◌∙◌, subst, arith, inl, inr, append_assoc}
+use Rattle.std.proofs.lemmas.List.{take-append-drop, drop-drop, length-take-le, length-drop, drop_all}
 use Rattle.pg_lex.specs.declared.token.Token.{Token}
 use Rattle.pg_lex.specs.declared.token.TokenKind.{TokenKind}
 use Rattle.pg_lex.specs.declared.token.TokenKind.TheVariants.{Word, Quoted, Number, Literal, Symbol, End, Bad}
-use Rattle.pg_lex.specs.Tokens.{Stands, NoToken, IsUnclosed, Gap, Begins, IsLast, Ends, Tokens}
+use Rattle.pg_lex.specs.Tokens.{Stands, NoToken, IsUnclosed, Gap, Begins, IsLast, Tokens}
 use Rattle.pg_lex.specs.Front.{HasFront}
 use Rattle.pg_lex.specs.Steps.{is_last, last_at, IsNext}
 use Rattle.pg_lex.specs.Spelled.{spells_some}
@@ -51,10 +51,10 @@ found_next base at n len text left kind r f =
       high = omega (arith, f.0, length-drop (at + n) text);
       last = λ e. absurd (let g = some.1 in cc);
       more = λ e. subst (Begins (base + at) (drop at text) (record { kind = kind; from = base + (at + n); to = base + (at + n) + len })) behind (record {
-        gap = take n left;
+        before = take n left;
         used = take len rest;
         parts = parts;
-        blank = subst (Gap (take n left)) (rest_is text left at n r ∙ sym (take-append-drop len rest)) r.gap;
+        gap = subst (Gap (take n left)) (rest_is text left at n r ∙ sym (take-append-drop len rest)) r.gap;
         stands = f.1;
         from = omega (arith, gap_size);
         to = omega (arith, size);
@@ -71,10 +71,10 @@ last_next base at n place text left kind r k low high l =
       low = low;
       high = high;
       last = λ e. record {
-        gap = take n left;
+        before = take n left;
         rest = drop (at + n) text;
         parts = sym r.left_is ∙ sym (take-append-drop n left) ∙ ap (λ (x : List ℕ). take n left ++ x) (rest_is text left at n r);
-        blank = subst (Gap (take n left)) (rest_is text left at n r) r.gap;
+        gap = subst (Gap (take n left)) (rest_is text left at n r) r.gap;
         from = rw gap_size l;
         to = refl;
       };

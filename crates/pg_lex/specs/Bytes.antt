@@ -1,5 +1,5 @@
 -- The bytes that tokens and blanks are made of.
-use Rattle.std.specs.Prelude.{ℕ, ◌-◌, Bool, true, false, cond, ◌&&◌, ◌||◌, nat_le, ◌==◌, List, [], ◌∷◌}
+use Rattle.std.specs.Prelude.{ℕ, ◌-◌, Bool, false, cond, ◌&&◌, ◌||◌, nat_le, ◌==◌, List, [], ◌∷◌}
 
 -- space, tab, line feed, carriage return
 abbrev pub is_white : ℕ → Bool

@@ -1,5 +1,5 @@
 -- The token at the front by the lengths of fronts, as the code finds it.
-use Rattle.std.specs.Prelude.{ℕ, ◌≡◌, ◌+◌, ◌≤◌, Bool, true, false, cond, ◌&&◌, ◌||◌, ◌==◌, List, [], ◌∷◌, ◌++◌, map, length, take, drop}
+use Rattle.std.specs.Prelude.{ℕ, ◌≡◌, ◌+◌, ◌≤◌, Bool, false, cond, ◌&&◌, ◌||◌, ◌==◌, List, [], ◌∷◌, ◌++◌, map, length, take, drop}
 use Rattle.std.specs.declared.option.Option.{Option}
 use Rattle.std.specs.declared.option.Option.TheVariants.{Some, None}
 use Rattle.std.specs.List.{prefix_len}
@@ -8,7 +8,7 @@ use Rattle.pg_lex.specs.declared.token.TokenKind.TheVariants.{Word, Number, Symb
 use Rattle.pg_lex.specs.declared.front.Front.{Front}
 use Rattle.pg_lex.specs.declared.front.Front.TheVariants.{Found, Unclosed, Nothing}
 use Rattle.pg_lex.specs.Bytes.{is_digit, is_letter, is_word_byte, upper, starts, starts_with}
-use Rattle.pg_lex.specs.Spelled.{Class, Letter, Digit, Double, Single, Other}
+use Rattle.pg_lex.specs.Spelled.{Class, Double, Single}
 use Rattle.pg_lex.specs.Tokens.{Stands, NoToken, IsUnclosed, doubled}
 
 -- a symbol of one byte

@@ -1,14 +1,14 @@
 -- Bytes have one token list.
-use Rattle.std.proofs.Common.{◌≡◌, ◌≢◌, ℕ, ◌+◌, ◌≤◌, Bool, true, false, cond, List, [], ◌∷◌, ◌++◌, length, refl, sym, ap, ◌∙◌, subst, arith, inl, inr, ◌⊎◌, append_assoc}
-use Rattle.std.specs.Prelude.{not, ◌&&◌, ◌||◌, ◌==◌}
-use Rattle.std.specs.List.{list_all, flat_map}
-use Rattle.std.proofs.lemmas.Bool.{and_parts, both_ways, eqb-true}
+use Rattle.std.proofs.Common.{◌≡◌, ℕ, ◌+◌, true, List, [], ◌∷◌, ◌++◌, length, refl, sym, ap, ◌∙◌, subst, inl, inr, ◌⊎◌, append_assoc}
+use Rattle.std.specs.Prelude.{not, ◌==◌}
+use Rattle.std.specs.List.{flat_map}
+use Rattle.std.proofs.lemmas.Bool.{and_parts, both_ways}
 use Rattle.pg_lex.specs.declared.token.Token.{Token}
 use Rattle.pg_lex.specs.declared.token.TokenKind.{TokenKind}
-use Rattle.pg_lex.specs.declared.token.TokenKind.TheVariants.{Word, Quoted, Number, Literal, Symbol, End, Bad}
+use Rattle.pg_lex.specs.declared.token.TokenKind.TheVariants.{End, Bad}
 use Rattle.pg_lex.specs.Bytes.{is_white, starts_with}
-use Rattle.pg_lex.specs.Tokens.{Spells, Stands, NoToken, IsUnclosed, Blank, White, Comment, bytes_of, is_line, EndsLine, IsBlank, AreBlank, IsClear, Gap, Begins, IsLast, Ends, Tokens}
-use Rattle.pg_lex.specs.Spelled.{same_front, spells_some, stands_once, Same}
+use Rattle.pg_lex.specs.Tokens.{Stands, IsUnclosed, Blank, White, Comment, bytes_of, is_line, EndsLine, IsBlank, AreBlank, IsClear, Gap, Begins, IsLast, Ends, Tokens}
+use Rattle.pg_lex.specs.Spelled.{spells_some, stands_once}
 
 -- ---- blanks
 
@@ -55,7 +55,7 @@ blanks_once (b ∷ bs) (c ∷ cs) x y e g h p q =
 pub gap_once : (g h x y : List ℕ) → g ++ x ≡ h ++ y → Gap g x → Gap h y → (g ≡ h) × (x ≡ y)
 gap_once g h x y e p q =
     let d = sym (ap (λ (l : List ℕ). l ++ x) p.bytes) ∙ e ∙ ap (λ (l : List ℕ). l ++ y) q.bytes in
-    let k = blanks_once p.blanks q.blanks x y d p.blank q.blank p.clear q.clear in
+    let k = blanks_once p.blanks q.blanks x y d p.each q.each p.clear q.clear in
     (p.bytes ∙ ap (flat_map bytes_of) k.0 ∙ sym q.bytes, k.1)
 
 -- ---- tokens
@@ -94,19 +94,19 @@ token_same t u k f o = made_same t.kind u.kind t.from u.from t.to u.to k f o
 
 ends_once : (at : ℕ) (text : List ℕ) (t u : Token) → Ends at text t → Ends at text u → t ≡ u
 ends_once at text t u g h =
-    let k = gap_once g.gap h.gap g.rest h.rest (sym g.parts ∙ h.parts) g.blank h.blank in
-    let i : IsLast u.kind (at + length g.gap) g.rest u.from = subst (λ (r : List ℕ). IsLast u.kind (at + length g.gap) r u.from) (sym k.1) (subst (λ (l : List ℕ). IsLast u.kind (at + length l) h.rest u.from) (sym k.0) h.from) in
-    let l = last_once t.kind u.kind (at + length g.gap) t.from u.from g.rest g.from i in
+    let k = gap_once g.before h.before g.rest h.rest (sym g.parts ∙ h.parts) g.gap h.gap in
+    let i : IsLast u.kind (at + length g.before) g.rest u.from = subst (λ (r : List ℕ). IsLast u.kind (at + length g.before) r u.from) (sym k.1) (subst (λ (l : List ℕ). IsLast u.kind (at + length l) h.rest u.from) (sym k.0) h.from) in
+    let l = last_once t.kind u.kind (at + length g.before) t.from u.from g.rest g.from i in
     token_same t u l.0 l.1 (g.to ∙ l.1 ∙ sym h.to)
 
 ends_alone : (at : ℕ) (text rest : List ℕ) (t u : Token) → Ends at text t → Begins at text u rest → ⊥
 ends_alone at text rest t u g h =
-    let k = gap_once g.gap h.gap g.rest (h.used ++ rest) (sym g.parts ∙ h.parts) g.blank h.blank in
-    last_alone t.kind u.kind (at + length g.gap) t.from g.rest h.used rest k.1 g.from h.stands
+    let k = gap_once g.before h.before g.rest (h.used ++ rest) (sym g.parts ∙ h.parts) g.gap h.gap in
+    last_alone t.kind u.kind (at + length g.before) t.from g.rest h.used rest k.1 g.from h.stands
 
 begins_once : (at : ℕ) (text r s : List ℕ) (t u : Token) → Begins at text t r → Begins at text u s → (t ≡ u) × (r ≡ s)
 begins_once at text r s t u g h =
-    let k = gap_once g.gap h.gap (g.used ++ r) (h.used ++ s) (sym g.parts ∙ h.parts) g.blank h.blank in
+    let k = gap_once g.before h.before (g.used ++ r) (h.used ++ s) (sym g.parts ∙ h.parts) g.gap h.gap in
     let m = stands_once t.kind u.kind g.used h.used r s k.1 g.stands h.stands in
     let f : t.from ≡ u.from = g.from ∙ ap (λ (l : List ℕ). at + length l) k.0 ∙ sym h.from in
     let o : t.to ≡ u.to = g.to ∙ ap (λ n. n + length g.used) f ∙ ap (λ (l : List ℕ). u.from + length l) m.used ∙ sym h.to in

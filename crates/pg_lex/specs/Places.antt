@@ -1,16 +1,15 @@
 -- Where the tokens of a text stand, which of them is the last, and which of their texts are ASCII.
-use Rattle.std.proofs.Common.{◌≡◌, ◌≢◌, ℕ, suc, ◌+◌, ◌-◌, ◌<◌, ◌≤◌, Bool, true, false, cond, List, [], ◌∷◌, ◌++◌, length, map, refl, sym, ap, ◌∙◌, subst, arith, inl, inr, ◌⊎◌}
-use Rattle.std.specs.Prelude.{◌&&◌, ◌||◌, ◌==◌, nat_lt}
-use Rattle.std.specs.List.{AllByRecursion, list_all, list_any}
-use Rattle.std.specs.Str.{bytes_eq}
+use Rattle.std.proofs.Common.{◌≡◌, ◌≢◌, ℕ, ◌+◌, ◌≤◌, Bool, true, false, List, [], ◌∷◌, ◌++◌, length, map, refl, sym, ap, ◌∙◌, subst, arith, inl, inr, ◌⊎◌}
+use Rattle.std.specs.Prelude.{nat_lt}
+use Rattle.std.specs.List.{AllByRecursion, list_all}
 use Rattle.std.proofs.lemmas.List.{length-append}
-use Rattle.std.proofs.lemmas.Bool.{and_parts, ltb-true}
+use Rattle.std.proofs.lemmas.Bool.{and_parts}
 use Rattle.std.proofs.lemmas.Bool.Decides.{nat_tests}
 use Rattle.pg_lex.specs.declared.token.Token.{Token}
 use Rattle.pg_lex.specs.declared.token.TokenKind.{TokenKind}
 use Rattle.pg_lex.specs.declared.token.TokenKind.TheVariants.{Word, Quoted, Number, Literal, Symbol, End, Bad}
-use Rattle.pg_lex.specs.Bytes.{is_letter, is_word_byte, is_digit, upper, starts}
-use Rattle.pg_lex.specs.Tokens.{Spells, Stands, symbols, is_symbol, Gap, Begins, IsLast, Ends, Tokens}
+use Rattle.pg_lex.specs.Bytes.{is_word_byte, is_digit, upper}
+use Rattle.pg_lex.specs.Tokens.{Spells, symbols, is_symbol, Begins, IsLast, Ends, Tokens}
 use Rattle.pg_lex.specs.Steps.{is_last}
 use Rattle.pg_lex.specs.Spelled.{found_is, spells_some}
 
@@ -31,13 +30,13 @@ last_within _ at place rest h = absurd h
 
 pub begins_within : (at : ℕ) (text rest : List ℕ) (t : Token) → Begins at text t rest → (at ≤ t.from) × (t.from ≤ t.to) × (t.to + length rest ≡ at + length text)
 begins_within at text rest t h =
-    let n : length text ≡ length h.gap + (length h.used + length rest) = ap length h.parts ∙ length-append h.gap (h.used ++ rest) ∙ ap (λ m. length h.gap + m) (length-append h.used rest) in
+    let n : length text ≡ length h.before + (length h.used + length rest) = ap length h.parts ∙ length-append h.before (h.used ++ rest) ∙ ap (λ m. length h.before + m) (length-append h.used rest) in
     (omega (arith, h.from), omega (arith, h.to), omega (arith, h.from, h.to, n))
 
 pub ends_within : (at : ℕ) (text : List ℕ) (t : Token) → Ends at text t → (at ≤ t.from) × (t.from ≤ at + length text)
 ends_within at text t h =
-    let n : length text ≡ length h.gap + length h.rest = ap length h.parts ∙ length-append h.gap h.rest in
-    let w = last_within t.kind (at + length h.gap) t.from h.rest h.from in
+    let n : length text ≡ length h.before + length h.rest = ap length h.parts ∙ length-append h.before h.rest in
+    let w = last_within t.kind (at + length h.before) t.from h.rest h.from in
     (omega (arith, w.0), omega (arith, w.1, n))
 
 -- the tokens of a text rise

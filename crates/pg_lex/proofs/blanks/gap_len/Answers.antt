@@ -1,5 +1,4 @@
-use Rattle.std.proofs.Common.{◌≡◌, ◌<◌, ◌≤◌, ◌-◌, ℕ, length, sym, arith}
-use Rattle.std.proofs.lemmas.List.{length-drop}
+use Rattle.std.proofs.Common.{◌<◌, arith}
 use Rattle.pg_lex.proofs.BlankLaws.{so_far_more}
 use Rattle.pg_lex.proofs.blanks.gap_len.Goals as goal
 

@@ -1,4 +1,4 @@
-use Rattle.std.proofs.Common.{◌≡◌, ◌∙◌, sym, refl, arith}
+use Rattle.std.proofs.Common.{◌∙◌, sym, refl, arith}
 use Rattle.pg_lex.proofs.StepLaws.{one_more, all_done}
 use Rattle.pg_lex.proofs.lexer.lex.Goals as goal
 
