@@ -10,3 +10,6 @@ pub use memory_sink::MemSink;
 pub use memory_source::MemSource;
 pub use streams::{StdSink, StdSource};
 pub use traits::{Failed, Sink, Source};
+
+#[cfg(test)]
+mod tests;
