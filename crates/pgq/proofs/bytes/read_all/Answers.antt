@@ -1,4 +1,4 @@
-use Rattle.std.proofs.Common.{◌++◌, take, arith, rules, length-append}
+use Rattle.std.proofs.Common.{◌++◌, take, arith}
 use Rattle.std.proofs.lemmas.Grind.{common_steps}
 use Rattle.pgq.proofs.Known.{Consumes-join}
 use Rattle.pgq.proofs.bytes.read_all.Goals as goal
