@@ -30,8 +30,8 @@ pub record LegalRun (before after : Option (List ℕ)) (text : List ℕ) : Type 
   pub short : length bytes ≤ 65536
   pub is_text : IsTextOf bytes text
 
--- what was read is too long, or is all of the source and is not run yet
-pub record OutOfReach (before after : Option (List ℕ)) : Type 0 where
+-- what was read gives no run: it is too long, or it is all of the source and is no script that is run yet
+pub record ReadsNoRun (before after : Option (List ℕ)) : Type 0 where
   pub bytes : List ℕ
   pub read : ReadsAll 65536 before after bytes
   pub why : (length bytes ≡ 65537) ⊎ IsNotRun bytes
@@ -45,7 +45,7 @@ module _ (left left' : Option (List ℕ)) (read_faults read_faults' : ℕ) (held
   StepMeans ReadFault = Rose read_faults read_faults' × ReadsSome 65536 left left' × Keeps held held'
   StepMeans WriteFault = Rose write_faults write_faults' × ((text : List ℕ) × LegalRun left left' text × TookFront held held' text)
   StepMeans Memory = ReadsSome 65536 left left' × Keeps held held'
-  StepMeans NotYet = OutOfReach left left' × Keeps held held'
+  StepMeans NotYet = ReadsNoRun left left' × Keeps held held'
 
   -- nothing was read or written, and no fault came
   pub record Untouched : Type 0 where
@@ -57,8 +57,4 @@ module _ (left left' : Option (List ℕ)) (read_faults read_faults' : ℕ) (held
   -- the program: bad words exactly where the words have no form, and else what the form does
   abbrev pub TopMeans : List (List ℕ) → Status → Type 0
   TopMeans words BadWords = HasNoForm words × Untouched
-  TopMeans words Done = HasForm Step words × StepMeans Done
-  TopMeans words ReadFault = HasForm Step words × StepMeans ReadFault
-  TopMeans words WriteFault = HasForm Step words × StepMeans WriteFault
-  TopMeans words Memory = HasForm Step words × StepMeans Memory
-  TopMeans words NotYet = HasForm Step words × StepMeans NotYet
+  TopMeans words status = HasForm Step words × StepMeans status
