@@ -1,6 +1,8 @@
 //! The program: runs a script of tables, graphs, changes and queries, and writes its transcript.
 #![tactic(auto)]
 
+ghost use Rattle.std.specs.Prelude.{◌≡◌, ◌⊎◌, IfErr};
+
 mod bytes;
 mod status;
 mod step;
@@ -29,7 +31,9 @@ fn main(rt: HostRuntime) -> ExitCode {
 }
 
 // The words that the program was run with, without its name. A word that is no text is of no form.
-fn words_of(rt: &(impl Env + AllocGlobal)) -> Result<List<Text>, Status> {
+fn words_of(rt: &(impl Env + AllocGlobal)) -> Result<List<Text>, Status>
+    ensures { IfErr result (λ status. (status ≡ Status.BadWords) ⊎ (status ≡ Status.Memory)) }
+{
     let args = match env::args(rt) {
         Ok(args) => args,
         Err(e) if e.kind() == io::ErrorKind::OutOfMemory => return Err(Status::Memory),

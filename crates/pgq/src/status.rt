@@ -1,4 +1,4 @@
-ghost use Rattle.std.specs.Prelude.{◌≡◌};
+ghost use Rattle.std.specs.Prelude.{◌≡◌, ◌↔◌, IsNone};
 ghost use Rattle.pgq.specs.Status.{number_of};
 
 use std::io;
@@ -51,7 +51,9 @@ impl Status {
         }
     }
 
-    fn fault(self) -> Option<Fault> {
+    fn fault(self) -> Option<Fault>
+        ensures { IsNone result ↔ (self ≡ Status.Done) }
+    {
         match self {
             Status::Done => None,
             Status::BadWords => Some(Fault::BadWords),
