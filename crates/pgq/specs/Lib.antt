@@ -2,3 +2,5 @@ pub mod Bytes
 pub mod Words
 pub mod Status
 pub mod Headline
+pub mod Core
+pub mod Stepped

@@ -1,0 +1,4 @@
+pub mod Text
+pub mod Judged
+pub mod Session
+pub mod Legal
