@@ -1,13 +1,59 @@
-//! Runs a script and prints its transcript.
+//! The program: runs a script of tables, graphs, changes and queries, and writes its transcript.
 #![tactic(auto)]
 
+ghost use Rattle.std.specs.Prelude.{◌≡◌, ◌⊎◌, IfErr};
+
+mod bytes;
 mod catalog;
 mod cursor;
 mod form;
 mod hop;
+mod lines;
 mod names;
 mod setup;
-mod lines;
 mod statement;
+mod status;
+mod step;
+mod top;
+mod words;
 
-fn main() {}
+use crate::status::Status;
+use crate::top::top;
+use pg_outside::{StdSink, StdSource};
+use pg_value::{List, Text};
+use std::process::ExitCode;
+use std::rt::Env;
+use std::{env, io};
+
+fn main(rt: HostRuntime) -> ExitCode {
+    let status = match words_of(&rt) {
+        Ok(words) => {
+            let mut source = StdSource::new(rt.stdin());
+            let mut sink = StdSink::new(rt.stdout());
+            top(rt.alloc(), &words, &mut source, &mut sink)
+        }
+        Err(status) => status,
+    };
+    let _ = status.report(&rt);
+    ExitCode::from(status.number())
+}
+
+// The words that the program was run with, without its name. A word that is no text is of no form.
+fn words_of(rt: &(impl Env + AllocGlobal)) -> Result<List<Text>, Status>
+    ensures { IfErr result (λ status. (status ≡ Status.BadWords) ⊎ (status ≡ Status.Memory)) }
+{
+    let args = match env::args(rt) {
+        Ok(args) => args,
+        Err(e) if e.kind() == io::ErrorKind::OutOfMemory => return Err(Status::Memory),
+        Err(_) => return Err(Status::BadWords),
+    };
+    let mut words = List::new(rt.alloc());
+    for arg in args.skip(1) {
+        let word = Text::from_str(rt.alloc(), arg.as_str()).map_err(|_| Status::Memory)?;
+        words.push(word).map_err(|_| Status::Memory)?;
+    }
+    Ok(words)
+}
+
+#[cfg(test)]
+mod tests;

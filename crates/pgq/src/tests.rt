@@ -1,0 +1,146 @@
+ghost use Rattle.std.specs.Prelude.{◌<◌};
+
+use crate::bytes::{ReadError, read_all, write_all};
+use crate::status::Status;
+use crate::top::top;
+use crate::words::{Form, form_of};
+use pg_outside::{Failed, MemSink, MemSource};
+use pg_value::{List, Text};
+use std::alloc::{AllocError, Global};
+use std::test::Fail;
+
+const EMPTY_RUN: &str = "@log 0\n@peak kept 1 pins 0\n@end\n";
+
+fn source(alloc: Global, text: &[u8], piece: usize, fails: &[u64]) -> Result<MemSource, AllocError>
+    requires { 0 < piece }
+{
+    let bytes = List::from_vec(Vec::from_slice(alloc, text)?);
+    let fails = List::from_vec(Vec::from_slice(alloc, fails)?);
+    Ok(MemSource::new(bytes, piece, fails))
+}
+
+fn sink(alloc: Global, room: usize, piece: usize, fails: &[u64]) -> Result<MemSink, AllocError>
+    requires { 0 < piece }
+{
+    let fails = List::from_vec(Vec::from_slice(alloc, fails)?);
+    MemSink::new(alloc, room, piece, fails)
+}
+
+// Words with a `|` between them.
+fn words(alloc: Global, line: &str) -> Result<List<Text>, AllocError> {
+    let mut list = List::new(alloc);
+    for word in line.split('|') {
+        list.push(Text::from_str(alloc, word)?)?;
+    }
+    Ok(list)
+}
+
+#[test]
+fn reads_to_the_end_or_one_byte_beyond(rt: HostRuntime) -> Result<(), Fail> {
+    let alloc = rt.alloc();
+    for (piece, most, fail, want) in [
+        (1, 9, 0, Ok("abcdef")),
+        (9, 9, 0, Ok("abcdef")),
+        (1, 6, 0, Ok("abcdef")),
+        (4, 5, 0, Ok("abcdef")),
+        (4, 2, 0, Ok("abc")),
+        (1, 0, 0, Ok("a")),
+        (1, 9, 1, Err(ReadError::Failed)),
+        (1, 9, 7, Err(ReadError::Failed)),
+        (1, 9, 8, Ok("abcdef")),
+    ] {
+        let mut from = source(alloc, b"abcdef", piece, &[fail])?;
+        match (read_all(alloc, &mut from, most), want) {
+            (Ok(read), Ok(text)) => assert_eq!(rt; read.as_slice(), text.as_bytes()),
+            (Err(e), Err(error)) => assert_eq!(rt; e, error),
+            _ => assert!(rt; false, "piece {piece}, most {most}, fail {fail}"),
+        }
+    }
+    Ok(())
+}
+
+/// More bytes than fit into many chunks.
+#[test]
+fn reads_long_inputs(rt: HostRuntime) -> Result<(), Fail> {
+    let alloc = rt.alloc();
+    let text = vec![in alloc; 7; 100_000]?;
+    let mut from = source(alloc, text.as_slice(), 5000, &[])?;
+    let read = read_all(alloc, &mut from, 200_000).map_err(|_| "read")?;
+    assert_eq!(rt; read.as_slice(), text.as_slice());
+    Ok(())
+}
+
+#[test]
+fn writes_the_whole_text_or_a_front(rt: HostRuntime) -> Result<(), Fail> {
+    let alloc = rt.alloc();
+    for (room, piece, fail, answer, held) in [
+        (6, 1, 0, Ok(()), "abcdef"),
+        (9, 4, 0, Ok(()), "abcdef"),
+        (5, 1, 0, Err(Failed), "abcde"),
+        (9, 2, 3, Err(Failed), "abcd"),
+        (9, 9, 1, Err(Failed), ""),
+    ] {
+        let mut to = sink(alloc, room, piece, &[fail])?;
+        assert_eq!(rt; write_all(&mut to, b"abcdef"), answer);
+        assert_eq!(rt; to.bytes(), held.as_bytes());
+    }
+    Ok(())
+}
+
+#[test]
+fn words_have_a_form_or_none(rt: HostRuntime) -> Result<(), Fail> {
+    let alloc = rt.alloc();
+    for (line, want) in [
+        ("step", Some(Form::Step)),
+        ("step|-", Some(Form::Step)),
+        ("step|step", None),
+        ("step|-|-", None),
+        ("-", None),
+        ("-|step", None),
+        ("run", None),
+        ("gen|7|1", None),
+        ("--help", None),
+        ("STEP", None),
+        ("step ", None),
+        ("step|", None),
+        ("", None),
+    ] {
+        assert_eq!(rt; form_of(&words(alloc, line)?), want);
+    }
+    assert_eq!(rt; form_of(&List::new(alloc)), None);
+    Ok(())
+}
+
+/// An empty script, read and written a byte at a time: a read that fails, a write that fails after five bytes, and none.
+#[test]
+fn statuses_of_runs(rt: HostRuntime) -> Result<(), Fail> {
+    let alloc = rt.alloc();
+    for (fail, room, status, number, held) in [
+        (0, 99, Status::Done, 0, EMPTY_RUN),
+        (1, 99, Status::ReadFault, 3, ""),
+        (0, 5, Status::WriteFault, 4, "@log "),
+    ] {
+        let mut from = source(alloc, b"", 1, &[fail])?;
+        let mut to = sink(alloc, room, 1, &[])?;
+        let answer = top(alloc, &words(alloc, "step")?, &mut from, &mut to);
+        assert_eq!(rt; answer, status);
+        assert_eq!(rt; answer.number(), number);
+        assert_eq!(rt; to.bytes(), held.as_bytes());
+    }
+    Ok(())
+}
+
+#[test]
+fn statuses_without_a_run(rt: HostRuntime) -> Result<(), Fail> {
+    let alloc = rt.alloc();
+    let long = vec![in alloc; b' '; 65_537]?;
+    for (word, status, number) in [("step", Status::NotYet, 6), ("stop", Status::BadWords, 2)] {
+        let mut from = source(alloc, long.as_slice(), 5000, &[])?;
+        let mut to = sink(alloc, 99, 99, &[])?;
+        let answer = top(alloc, &words(alloc, word)?, &mut from, &mut to);
+        assert_eq!(rt; answer, status);
+        assert_eq!(rt; answer.number(), number);
+        assert_eq!(rt; to.bytes(), b"".as_slice());
+    }
+    Ok(())
+}
