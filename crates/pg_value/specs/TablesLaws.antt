@@ -1,11 +1,9 @@
 -- The laws of tables under writes: what is read at a place, what one table holds, that order and fitting are kept.
-use Rattle.std.proofs.Common.{ℕ, ◌≡◌, ◌<◌, ◌≤◌, ◌+◌, List, [], ◌∷◌, ◌++◌, length, Bool, true, false, cond, refl, ap, sym, subst, ◌∙◌, arith, take}
-use Rattle.std.specs.Prelude.{◌==◌, map, slice_get, IfSome}
+use Rattle.std.proofs.Common.{ℕ, ◌≡◌, List, [], ◌∷◌, true, false, cond, refl, ap, sym, subst, ◌∙◌, take}
+use Rattle.std.specs.Prelude.{◌==◌, map, IfSome}
 use Rattle.std.specs.declared.option.Option.{Option}
 use Rattle.std.specs.declared.option.Option.TheVariants.{Some, None}
 use Rattle.std.specs.Option.{option_map}
-use Rattle.std.specs.declared.cmp.Ordering.{Ordering}
-use Rattle.std.specs.declared.cmp.Ordering.TheVariants.{Less, Equal, Greater}
 use Rattle.std.specs.Ordering.{is_eq, nat_cmp, ordering_then}
 use Rattle.std.specs.List.{filter}
 use Rattle.std.proofs.lemmas.Bool.{eqb-true, eq-eqb}
@@ -14,15 +12,11 @@ use Rattle.std.specs.Cmp.{nat_cmp_total}
 use Rattle.pg_keyed.specs.Lists.{Each, Distinct, each_kept, each_map, each_take, distinct_map}
 use Rattle.pg_keyed.specs.Keyed as keyed
 use Rattle.pg_keyed.specs.Keyed.{Ascends, Above, Fits, over}
-use Rattle.pg_keyed.specs.Orders.{same}
 use Rattle.pg_keyed.specs.Reads.{alike, filter_ascends, get_filter, keys_distinct}
 use Rattle.pg_keyed.specs.Puts.{put_rises, put_reads, put_each, put_nothing, put_filter, put_put}
 use Rattle.pg_value.specs.declared.value.Value.{Value}
 use Rattle.pg_value.specs.declared.row.Row.{Row}
-use Rattle.pg_value.specs.declared.row.Key.{Key}
 use Rattle.pg_value.specs.declared.shape.TableNo.{TableNo}
-use Rattle.pg_value.specs.declared.shape.ElemId.{ElemId}
-use Rattle.pg_value.specs.declared.shape.TableShape.{TableShape}
 use Rattle.pg_value.specs.declared.shape.Shapes.{Shapes}
 use Rattle.pg_value.specs.declared.write.Write.{Write}
 use Rattle.pg_value.specs.declared.write.Commit.{Commit}
