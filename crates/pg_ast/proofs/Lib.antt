@@ -1,0 +1,3 @@
+pub mod Social
+mod Truths
+mod SocialRows
