@@ -9,4 +9,5 @@ pub mod Bindings
 pub mod Answers
 pub mod Members
 pub mod EdgeKeys
+pub mod Cuts
 pub mod OneHop

@@ -1,10 +1,9 @@
 -- The pattern (x)-[e]->(y), under WALK, without a selector and conditions: its bindings are the edges, each once.
 -- So one row for each edge, in any order, is the answer of a query with this pattern and no final WHERE.
-use Rattle.std.proofs.Common.{◌≡◌, ◌==◌, ℕ, zero, suc, Bool, ne_eqb, false, cond, List, [], ◌∷◌, map, length, get_or, Contains, refl, ap, sym, ◌∙◌, subst, arith}
+use Rattle.std.proofs.Common.{◌≡◌, ◌==◌, ℕ, zero, suc, Bool, ne_eqb, false, cond, List, [], ◌∷◌, map, get_or, Contains, refl, ap, sym, ◌∙◌, subst, arith}
 use Rattle.std.specs.Prelude.{Some, None, flat_map, slice_index_or, IsPermutation}
 use Rattle.std.proofs.lemmas.List.Sorted.{IsPermutation-refl, IsPermutation-trans}
 use Rattle.pg_value.specs.declared.row.Row.{Row}
-use Rattle.pg_value.specs.declared.shape.ElemId.{ElemId}
 use Rattle.pg_value.specs.declared.shape.TableNo.{TableNo}
 use Rattle.pg_value.specs.declared.shape.TableSet.{TableSet}
 use Rattle.pg_value.specs.declared.shape.Shapes.{Shapes}
@@ -23,11 +22,11 @@ use Rattle.pg_ast.specs.declared.checked.CheckedQuery.{CheckedQuery}
 use Rattle.pg_ast.specs.CExprs.{ctree_of}
 use Rattle.pg_ast.specs.Meaning.{Assignment, OfVars, value_of}
 use Rattle.pg_ast.specs.Walks.{Graph, Hop, HasEdge, graph_of, last_vertex}
-use Rattle.pg_ast.specs.Rounds.{round_of}
-use Rattle.pg_ast.specs.Fits.{Mention, Fits, RoundsFit, Agree, HasTable, join, lists_of, singles}
+use Rattle.pg_ast.specs.Fits.{Fits, HasTable, join, lists_of, singles}
 use Rattle.pg_ast.specs.Bindings.{Binding, IsAllowed, Distinct, Selected}
 use Rattle.pg_ast.specs.Answers.{Answer, Joins, VarList, ListsAgree, assigned, lists_in, row_of, elems_found}
 use Rattle.pg_ast.specs.Members.{in_nil, in_map, from_map, not_in_cons, distinct_map, same_item, zip_one}
+use Rattle.pg_ast.specs.Cuts.{agree_by, one_agrees, node_rounds, one_edge}
 use Rattle.pg_ast.specs.EdgeKeys.{edge_tables, edge_stands, distinct_edges, vertex_table}
 
 -- THE QUERY
@@ -73,12 +72,6 @@ three_differ = (
   (not_in_cons 2 [] 1 (λ e. omega arith) (in_nil 1), (in_nil 2, tt)),
 )
 
-agree_by : (seen : List Mention) → Distinct (map (λ m. m.var) seen) → Agree seen
-agree_by seen d m n a b e = ap (λ z. z.elem) (same_item (λ m. m.var) seen m n d a b e)
-
-one_agrees : (x : ℕ) (v : ElemId) → Agree (record { var = x; elem = v } ∷ [])
-one_agrees x v = agree_by (record { var = x; elem = v } ∷ []) (in_nil x, tt)
-
 -- the ends of an edge stand, and the sets have the tables
 pub record Stood (g : Graph) (vs es : TableSet) (e : Edge) : Type 0 where
   pub source : Contains g.vertices e.source
@@ -103,20 +96,6 @@ bound g shape vs es e c s = record {
   permitted = tt;
 }
 
-node_rounds : (g : Graph) (filler : CFiller) (v : ElemId) (rounds : List (List Hop)) → length rounds ≡ 1 → RoundsFit g (round_of (Node filler)) v rounds → rounds ≡ [] ∷ []
-node_rounds g filler v [] n f = absurd (omega arith)
-node_rounds g filler v ([] ∷ []) n f = refl
-node_rounds g filler v ((hop ∷ hops) ∷ []) n f = absurd f.0.1
-node_rounds g filler v (hops ∷ more ∷ rounds) n f = absurd (omega arith)
-
-edge_rounds : (g : Graph) (filler : CFiller) (v : ElemId) (rounds : List (List Hop)) → length rounds ≡ 1 → RoundsFit g (round_of (EdgePart Right filler None)) v rounds
-    → (hop : Hop) × (rounds ≡ (hop ∷ []) ∷ []) × HasEdge g hop.edge v hop.to
-edge_rounds g filler v [] n f = absurd (omega arith)
-edge_rounds g filler v ([] ∷ []) n f = absurd f.0.1
-edge_rounds g filler v ((hop ∷ []) ∷ []) n f = (hop, refl, f.0.1.0)
-edge_rounds g filler v ((hop ∷ next ∷ hops) ∷ []) n f = absurd f.0.1.3
-edge_rounds g filler v (hops ∷ more ∷ rounds) n f = absurd (omega arith)
-
 back : (g : Graph) (vs es : TableSet) (b : Binding) (cuts : List (List (List Hop))) → b.hops ≡ flat_map join cuts → Fits g (one_hop_parts vs es) b.start cuts
     → b.vars ≡ map (lists_of (one_hop_parts vs es) b.start cuts) (0 ∷ 1 ∷ 2 ∷ []) → (e : Edge) × Contains g.edges e × (bind e ≡ b)
 back g vs es b [] h f l = absurd f
@@ -125,7 +104,7 @@ back g vs es b (r ∷ s ∷ []) h f l = absurd f.2.2
 back g vs es b (r ∷ s ∷ t ∷ u ∷ cuts) h f l = absurd f.2.2.2
 back g vs es b (r ∷ s ∷ t ∷ []) h f l =
     let p = node_rounds g (of_table 0 vs) b.start r f.0 f.1 in
-    let q = edge_rounds g (of_table 1 es) (last_vertex b.start (join r)) s f.2.0 f.2.1 in
+    let q = one_edge g Right (of_table 1 es) (last_vertex b.start (join r)) s f.2.0 f.2.1 in
     let w = node_rounds g (of_table 2 vs) (last_vertex (last_vertex b.start (join r)) (join s)) t f.2.2.0 f.2.2.1 in
     let e : Edge = record { elem = q.0.edge; source = b.start; dest = q.0.to } in
     let c : Contains g.edges e = subst (λ r. HasEdge g q.0.edge (last_vertex b.start (join r)) q.0.to) p q.2 in
