@@ -3,4 +3,5 @@ mod Truths
 mod SocialRows
 pub mod Patterns
 mod SingleWalks
-mod Shortest
+pub mod Shortest
+mod Choices

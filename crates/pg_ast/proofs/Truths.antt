@@ -8,7 +8,8 @@ use Rattle.pg_ast.specs.declared.expr.BinOp.{BinOp}
 use Rattle.pg_ast.specs.declared.expr.BinOp.TheVariants.{Or, And, Eq, Ne, Lt, Le, Gt, Ge, Plus, Minus as Less', Times}
 use Rattle.pg_ast.specs.declared.expr.Agg.TheVariants.{Count, Sum, Min, Max}
 use Rattle.pg_ast.specs.CExprs.{CTree, PropertyOf, Two, Group, Counted}
-use Rattle.pg_ast.specs.Meaning.{Scope, OfVars, value_of, unary, binary}
+use Rattle.pg_ast.specs.declared.checked.CExpr.TheVariants.{Lit}
+use Rattle.pg_ast.specs.Meaning.{IsTrueOf, Scope, OfVars, value_of, unary, binary}
 use Rattle.pg_ast.proofs.Social.{tables, knows}
 
 abbrev yes' : Value
@@ -101,3 +102,13 @@ elements_counted = refl
 
 none_counted : value_of (Counted 0) (stands_for []) ≡ Int (pos 0)
 none_counted = refl
+
+-- WHERE keeps neither what is unknown nor what is false
+unknown_dropped : (scope : Scope) → IsTrueOf (Lit Null) scope → ⊥
+unknown_dropped scope h = cc
+
+false_dropped : (scope : Scope) → IsTrueOf (Lit no') scope → ⊥
+false_dropped scope h = cc
+
+true_kept : (scope : Scope) → IsTrueOf (Lit yes') scope
+true_kept scope = refl
