@@ -7,6 +7,10 @@ pub mod Rounds
 pub mod Fits
 pub mod Bindings
 pub mod Answers
+pub mod OneHop
 pub mod Members
 pub mod EdgeKeys
-pub mod OneHop
+pub mod Cuts
+pub mod OneHopLaws
+pub mod MeaningLaws
+pub mod BindingLaws

@@ -68,6 +68,19 @@ module _ {X : Type 0} where
     distinct_append xs ys d.1 e (λ z a b. apart z (in_there x xs z a) b),
   )
 
+  pub nothing_in : (xs : List X) → ((x : X) → Contains xs x → ⊥) → xs ≡ []
+  nothing_in [] none = refl
+  nothing_in (x ∷ xs) none = absurd (none x (in_here x xs x refl))
+
+  -- a list without doubles of which each item is this one
+  pub only_item : (x : X) (xs : List X) → Distinct xs → Contains xs x → ((y : X) → Contains xs y → y ≡ x) → xs ≡ x ∷ []
+  only_item x [] d c each = absurd (in_nil x c)
+  only_item x (y ∷ []) d c each = ap (λ z. z ∷ []) (each y (in_here y [] y refl))
+  only_item x (y ∷ z ∷ xs) d c each =
+      let p = each y (in_here y (z ∷ xs) y refl) in
+      let q = each z (in_there y (z ∷ xs) z (in_here z xs z refl)) in
+      absurd (d.0 (in_here z xs y (q ∙ sym p)))
+
   -- a list of one item from each of one list
   pub zip_one : (xs : List X) (tuple : List X) → AllZip (λ bindings b. Contains bindings b) (xs ∷ []) tuple → (x : X) × Contains xs x × (tuple ≡ x ∷ [])
   zip_one xs [] h = absurd h

@@ -45,8 +45,8 @@ pub enum Agg {
     Max,
 }
 
-/// An expression as it is written (ISO/IEC 9075-2:2023, value expression). `at` is the place of the literal, of the operator's own word or symbol, which is IS
-/// for the two tests of NULL, or of the aggregate's word.
+/// An expression as it is written (ISO/IEC 9075-2:2023, value expression). `at` is the place of the literal, of the
+/// operator's own word or symbol, which is IS for the two tests of NULL, or of the aggregate's word.
 #[derive(Debug, Drop)]
 pub enum Expr {
     /// A number, a text, TRUE, FALSE or NULL. `bits` is a number's count of binary digits, and 0 for other literals.

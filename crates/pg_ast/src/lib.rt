@@ -4,6 +4,7 @@
 mod checked;
 mod define;
 mod expr;
+mod laws;
 mod pattern;
 mod statement;
 
@@ -16,6 +17,7 @@ pub use define::{
     TableDef, VertexDef,
 };
 pub use expr::{Agg, BinOp, Expr, Name, UnOp, Whole};
+pub use laws::{one_hop_answers, one_hop_bindings};
 pub use pattern::{
     Arrow, ColumnItem, Filler, LabelExpr, Mode, Part, PathPattern, Quant, Query, Selector,
 };

@@ -1,0 +1,5 @@
+use Rattle.pg_ast.specs.OneHopLaws.{one_hop_bindings}
+use Rattle.pg_ast.proofs.laws.one_hop_bindings.Goals as goal
+
+pub returns : goal.returns
+returns c = one_hop_bindings
