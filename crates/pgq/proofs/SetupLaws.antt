@@ -83,7 +83,7 @@ module _ (text : List ℕ) (item : Item) (s s' : Setup) (i : HasInserted text it
           (record { open_ = None; catalog = catalog_of s }) item (ChangedAlone 1 (length log) (length log + 1)) (record { open_ = None; catalog = catalog_of s })
   judged holds h l = changed_alone i.form w (length log) 1 (w ∷ []) (after log (length log)) i.read (taken s i.form i.table i.goes) refl refl refl
       (ap (stored_at (named w)) (put_nothing place_of named row_given place_cmp places (after log (length log))) ∙ new_key (after log (length log)) s s' i.table w refl holds i.placed, refl)
-      (omega arith) (logged (length log + 1) i.commit (logs h l log refl) i.is_commit refl) refl refl
+      (omega arith) (logged (length log + 1) i.commit (logs h l log refl) i.is_commit refl) refl
 
 same_setup : (s s' : Setup) → s'.vertex ≡ s.vertex → s'.edge ≡ s.edge → s'.graph ≡ s.graph → catalog_of s ≡ catalog_of s'
 same_setup s s' a b c = λ i. catalog_of (record s { vertex = sym a i; edge = sym b i; graph = sym c i })
@@ -200,3 +200,6 @@ vertices_ascend text items s h = subst (λ l. Ascends key_of key_cmp l) h.holds.
 
 pub edges_ascend : (text : List ℕ) (items : List Item) (s : Setup) → IsSetup text items s → Ascends key_of key_cmp s.edges
 edges_ascend text items s h = subst (λ l. Ascends key_of key_cmp l) h.holds.of_edges (held_ascends (record { 0 = 1 }) (after s.log (length s.log)) h.holds.in_order)
+
+pub one_more_outcome : (text : List ℕ) (item : Item) (s s' : Setup) → HasInserted text item s s' → length s'.outcomes ≡ length s.outcomes + 1
+one_more_outcome text item s s' i = ap length i.outcomes ∙ length-append s.outcomes (ChangedAlone 1 (length s.log) (length s.log + 1) ∷ [])

@@ -1,5 +1,5 @@
 -- What a setup of this stage has read and done: two tables, a graph over them, and rows.
-use Rattle.std.specs.Prelude.{ℕ, zero, suc, ◌≡◌, ◌≢◌, ◌+◌, ◌≤◌, List, [], ◌∷◌, ◌++◌, map, length, replicate, slice_get, Option, Some, None}
+use Rattle.std.specs.Prelude.{ℕ, zero, suc, ◌≡◌, ◌≢◌, ◌+◌, ◌<◌, ◌≤◌, true, false, List, [], ◌∷◌, ◌++◌, map, length, replicate, slice_get, codes, Option, Some, None}
 use Rattle.std.specs.List.Sorted.{IsSorted}
 use Rattle.pg_keyed.specs.Keyed.{Each}
 use Rattle.pg_value.specs.declared.row.Row.{Row}
@@ -11,6 +11,7 @@ use Rattle.pg_value.specs.TablesLaws.{stored_in, put_in}
 use Rattle.pg_value.specs.Log.{after, held}
 use Rattle.pg_ast.specs.OneHop.{one_hop_query}
 use Rattle.pg_script.specs.declared.script.Item.{Item}
+use Rattle.pg_script.specs.declared.script.Section.{Section}
 use Rattle.pg_script.specs.declared.script.Script.{Script}
 use Rattle.pg_script.specs.declared.outcome.Outcome.{Outcome}
 use Rattle.pg_script.specs.declared.outcome.Outcome.TheVariants.{ChangedAlone, Rows}
@@ -112,7 +113,43 @@ pub record IsAnswered (text : List ℕ) (item : Item) (s : Setup) (o : Outcome) 
   pub sorted : IsSorted row_order rows
   pub is_outcome : o ≡ Rows (length s.log) 0 (map (λ c. c.name) columns) rows
 
+-- the place in the table of a variable, of its places in the vertex table and in the edge table
+abbrev pub chosen : ℕ → Option ℕ → Option ℕ → Option ℕ
+chosen zero vertex edge = vertex
+chosen (suc zero) vertex edge = edge
+chosen (suc (suc x)) vertex edge = vertex
+
+-- a query over the setup's graph, with three different variables and 1 to 32 columns
+pub record IsOverGraph (s : Setup) (q : QueryForm) : Type 0 where
+  pub named : s.graph.form.name ≡ q.graph
+  pub source_edge : q.source ≢ q.edge
+  pub source_dest : q.source ≢ q.dest
+  pub edge_dest : q.edge ≢ q.dest
+  pub some : 0 < length q.columns
+  pub few : length q.columns ≤ 32
+
 -- THE WHOLE RUN
+
+-- the transcript of a setup and of the one answer of a session
+pub record IsTranscriptOf (s : Setup) (name : List ℕ) (o : Outcome) (t : Transcript) : Type 0 where
+  pub has_setup : t.has_setup ≡ true
+  pub sections : t.sections ≡ record { name = codes "setup"; outcomes = s.outcomes; rolled_back = false } ∷ record { name = name; outcomes = o ∷ []; rolled_back = false } ∷ []
+  pub tables : t.tables ≡ s.vertex.name ∷ s.edge.name ∷ []
+  pub log : t.log ≡ s.log
+  pub peak : t.peak ≡ (1, 0)
+
+-- the setup ran, and the session's one item was a query
+pub record HasRun (text : List ℕ) (setup session : Section) (t : Transcript) : Type 0 where
+  pub done : Setup
+  pub item : Item
+  pub outcome : Outcome
+  pub run : IsSetup text setup.items done
+  pub whole : length done.outcomes ≡ length setup.items
+  pub few : length done.log ≤ 256
+  pub one : length session.items ≡ 1
+  pub item_at : slice_get session.items 0 ≡ Some item
+  pub answered : IsAnswered text item done outcome
+  pub transcript : IsTranscriptOf done session.name outcome t
 
 -- the bytes are a script, and the transcript is that of its stepped run, which is legal
 pub record IsRunOf (bytes : List ℕ) (t : Transcript) : Type 0 where

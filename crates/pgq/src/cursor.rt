@@ -1,11 +1,11 @@
-ghost use Rattle.std.specs.Prelude.{◌≡◌, [], ◌∷◌, ◌≤◌, length, OnOk, IfOk, IfSome};
+ghost use Rattle.std.specs.Prelude.{◌≡◌, [], ◌∷◌, ◌≤◌, ◌<◌, length, slice_get, OnOk, IfOk, IfSome};
 ghost use Rattle.pg_lex.specs.declared.token.TokenKind.TheVariants.{Word, Number, Symbol, End};
 ghost use Rattle.pgq.specs.Form.{kinds, is_among, reserved_all_to_into, reserved_is_to_where, is_reserved, IsName, IsNumber, number_from};
 ghost use Rattle.pgq.specs.Reading.{sees};
 
 use crate::form::NumberForm;
 use pg_lex::{Token, TokenKind};
-use pg_value::Text;
+use pg_value::{List, Text};
 use std::alloc::{AllocError, Global};
 use std::marker::Model;
 
@@ -19,6 +19,17 @@ pub enum Unread {
 impl From<AllocError> for Unread {
     fn from(_: AllocError) -> Self {
         Unread::Memory
+    }
+}
+
+/// The item of a list at a place, which it must have.
+pub fn at<T>(list: &List<T>, place: usize) -> Result<&T, Unread>
+    ensures found { IfOk result (λ item. slice_get list.now place ≡ Some item.now) }
+    ensures within { OnOk result (place < length list.now) }
+{
+    match list.get(place) {
+        Some(item) => Ok(item),
+        None => Err(Unread::Form),
     }
 }
 

@@ -10,6 +10,8 @@ mod form;
 mod hop;
 mod lines;
 mod names;
+mod query;
+mod run;
 mod setup;
 mod statement;
 mod status;

@@ -1,4 +1,4 @@
-ghost use Rattle.std.specs.Prelude.{◌≡◌, ◌<◌, ◌≤◌, ◌+◌, ◌^◌, [], ◌∷◌, ◌++◌, take, length, slice_get, IfOk, OnOk, IsTrue, ◌≢◌, Some};
+ghost use Rattle.std.specs.Prelude.{◌≡◌, ◌<◌, ◌≤◌, ◌+◌, ◌^◌, [], ◌∷◌, ◌++◌, take, length, IfOk, OnOk, IsTrue, ◌≢◌};
 ghost use Rattle.pg_keyed.specs.Keyed.{Ascends, Sought};
 ghost use Rattle.pg_value.specs.Order.{key_cmp};
 ghost use Rattle.pg_value.specs.TablesLaws.{key_of};
@@ -8,7 +8,7 @@ ghost use Rattle.pgq.specs.Setup.{IsSetup, IsAdded, HasInserted, GoesTo};
 ghost use Rattle.pgq.specs.Rows.{HasRowAt};
 
 use crate::catalog::{GraphPlaces, graph, insert, table};
-use crate::cursor::Unread;
+use crate::cursor::{Unread, at};
 use crate::form::{InsertForm, NumberForm, TableForm};
 use pg_script::{Item, Outcome};
 use pg_value::{
@@ -118,16 +118,6 @@ fn commit_of(alloc: Global, from: u64, write: Write) -> Result<Commit, Unread>
     }
 }
 
-/// The item at a place.
-fn item_at(items: &List<Item>, at: usize) -> Result<&Item, Unread>
-    ensures { IfOk result (λ item. slice_get items.now at ≡ Some item.now) }
-{
-    match items.get(at) {
-        Some(item) => Ok(item),
-        None => Err(Unread::Form),
-    }
-}
-
 fn have_other_names(vertex: &TableForm, edge: &TableForm) -> bool
     ensures { IsTrue result → vertex.now.name ≢ edge.now.name }
 {
@@ -139,10 +129,11 @@ fn begin(alloc: Global, text: &[u8], items: &List<Item>) -> Result<Setup, Unread
     requires { length text.now < 2 ^ 32 }
     ensures begun { IfOk result (IsSetup text.now items.now) }
     ensures three { IfOk result (λ s. length s.outcomes ≡ 3) }
+    ensures enough { OnOk result (3 ≤ length items.now) }
 {
-    let first = item_at(items, 0)?;
-    let second = item_at(items, 1)?;
-    let third = item_at(items, 2)?;
+    let first = at(items, 0)?;
+    let second = at(items, 1)?;
+    let third = at(items, 2)?;
     let vertex = table(alloc, text, first)?;
     let edge = table(alloc, text, second)?;
     if !have_other_names(&vertex, &edge) {
@@ -234,7 +225,7 @@ const MOST_ITEMS: usize = 259;
 pub fn run_setup(alloc: Global, text: &[u8], items: &List<Item>) -> Result<Setup, Unread>
     requires { length text.now < 2 ^ 32 }
     ensures run { IfOk result (IsSetup text.now items.now) }
-    ensures whole { IfOk result (λ s. length items.now ≤ length s.outcomes) }
+    ensures whole { IfOk result (λ s. length s.outcomes ≡ length items.now) }
     ensures few { IfOk result (λ s. length s.log ≤ 256) }
 {
     let count = items.len();
@@ -242,8 +233,8 @@ pub fn run_setup(alloc: Global, text: &[u8], items: &List<Item>) -> Result<Setup
         return Err(Unread::Form);
     }
     let mut setup = begin(alloc, text, items)?;
-    for at in 3..count {
-        let item = item_at(items, at)?;
+    for place in 3..count {
+        let item = at(items, place)?;
         step(alloc, text, item, &mut setup)?;
     }
     Ok(setup)

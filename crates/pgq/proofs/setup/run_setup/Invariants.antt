@@ -2,8 +2,8 @@ use Rattle.std.proofs.Common.{◌≡◌, length}
 use Rattle.pgq.specs.Setup.{IsSetup}
 use Rattle.pgq.proofs.setup.run_setup.Given as goal
 
-abbrev pub invariant-loop-at : goal.invariant-loop-at
-invariant-loop-at l = record {
+abbrev pub invariant-loop-place : goal.invariant-loop-place
+invariant-loop-place l = record {
   run : IsSetup l.text l.items l.setup;
-  at : length l.setup.outcomes ≡ l.at;
+  at : length l.setup.outcomes ≡ l.place;
 }
