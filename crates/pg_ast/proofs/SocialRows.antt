@@ -13,7 +13,7 @@ use Rattle.pg_ast.specs.declared.checked.CheckedColumn.{CheckedColumn}
 use Rattle.pg_ast.specs.declared.checked.CheckedQuery.{CheckedQuery}
 use Rattle.pg_ast.specs.Answers.{Answer, column_names}
 use Rattle.pg_ast.specs.OneHop.{one_hop_query}
-use Rattle.pg_ast.specs.OneHopLaws.{answer_of, answer_reordered}
+use Rattle.pg_ast.specs.OneHop.{answer_of, answer_reordered}
 use Rattle.pg_ast.specs.Members.{in_one, in_nil}
 use Rattle.pg_ast.proofs.Social.{shapes, social, tables, in_order, person_table, knows_table}
 

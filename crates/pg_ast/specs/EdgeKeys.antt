@@ -18,7 +18,7 @@ use Rattle.pg_value.specs.Compare.{is_null}
 use Rattle.pg_value.specs.Tables.{Stored, Tables, IsInOrder, held_in, place_of, pick}
 use Rattle.pg_value.specs.Graph.{Edge, vertices, edges, edges_in, edge_of, edge_between, end_of, elem_of, elem_place, same_elem}
 use Rattle.pg_ast.specs.Bindings.{Distinct}
-use Rattle.pg_ast.specs.OneHop.{table_of, edge_tables}
+use Rattle.pg_ast.specs.HopQuery.{table_of, edge_tables}
 use Rattle.pg_ast.specs.Members.{in_nil, in_cons, from_map, from_flat_map, from_filter_map, in_filter_map, in_filter, from_any, distinct_append, distinct_under, distinct_filter, distinct_given}
 
 -- NAMES

@@ -7,10 +7,10 @@ pub mod Rounds
 pub mod Fits
 pub mod Bindings
 pub mod Answers
-pub mod OneHop
+pub mod HopQuery
 pub mod Members
 pub mod EdgeKeys
 pub mod Cuts
-pub mod OneHopLaws
+pub mod OneHop
 pub mod MeaningLaws
 pub mod BindingLaws

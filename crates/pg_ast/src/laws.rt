@@ -8,7 +8,7 @@ pub fn one_hop_bindings()
 {}
 
 /// The answer of a query with that pattern and no final WHERE is one row for each edge, in any order.
-#[tactic(auto, using(crate::specs::OneHopLaws::one_hop_answers))]
+#[tactic(auto, using(crate::specs::OneHop::one_hop_answers))]
 pub fn one_hop_answers()
     ensures { OneHopAnswers }
 {}

@@ -1,4 +1,4 @@
-use Rattle.pg_ast.specs.OneHopLaws.{one_hop_bindings}
+use Rattle.pg_ast.specs.OneHop.{one_hop_bindings}
 use Rattle.pg_ast.proofs.laws.one_hop_bindings.Goals as goal
 
 pub returns : goal.returns
