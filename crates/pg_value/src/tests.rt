@@ -150,15 +150,16 @@ fn values_are_compared(rt: HostRuntime) {
 fn rows_are_copied_and_sorted(rt: HostRuntime) -> Result<(), Fail> {
     let mut rows = Vec::new(rt.alloc());
     for number in [2, -1, 10] {
-        rows.push(row(rt.alloc(), Value::Int(number))?)?;
+        let fresh = row(rt.alloc(), Value::Int(number))?;
+        rows.push(copy_row(rt.alloc(), &fresh)?)?;
+        rows.push(fresh)?;
     }
-    rows.push(copy_row(rt.alloc(), &rows[0])?)?;
     sort_rows(&mut rows)?;
     let mut out = Text::new(rt.alloc());
     for row in &rows {
         push_values(rt.alloc(), &row.values, &mut out)?;
     }
-    assert_eq!(rt; out.as_str(), "-12210");
+    assert_eq!(rt; out.as_str(), "-1-1221010");
     Ok(())
 }
 
