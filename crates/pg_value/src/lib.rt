@@ -6,6 +6,8 @@ mod list;
 mod row;
 mod shape;
 mod sort;
+#[cfg(test)]
+mod tests;
 mod text;
 mod value;
 mod write;

@@ -77,6 +77,7 @@ impl Writes {
     {
         self.list.len() as u64
     }
+
     /// The writes, in order of table and key.
     pub fn as_slice(&self) -> &[Write]
         ensures value { result.now ≡ self.now.list }
