@@ -2,6 +2,7 @@
 #![tactic(auto)]
 
 mod outcome;
+mod printing;
 mod script;
 mod transcript;
 

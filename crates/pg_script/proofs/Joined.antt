@@ -1,0 +1,6 @@
+-- Texts appended one after another.
+use Rattle.std.proofs.Common.{◌≡◌, ℕ, List, ◌++◌, append_assoc}
+
+-- four parts of a line, and its end
+pub line_of_four : (o a b c d z m n p q : List ℕ) → m ≡ o ++ a → n ≡ m ++ b → p ≡ n ++ c → q ≡ p ++ d → q ++ z ≡ o ++ ((a ++ (b ++ (c ++ d))) ++ z)
+line_of_four o a b c d z m n p q e f g h = rw (h, g, f, e) (simp append_assoc)
