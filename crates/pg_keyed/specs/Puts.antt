@@ -1,56 +1,86 @@
--- The laws of `put`: what it reads, that it stays in order, and that changes put one after another are their merge.
-use Rattle.std.proofs.Common.{ℕ, zero, suc, ◌≡◌, ◌+◌, ◌<◌, ◌≤◌, List, [], ◌∷◌, length, Bool, true, false, cond, refl, ap, sym, subst, ◌∙◌, ◌⊎◌, inl, inr, arith}
+-- The laws of `put`: what it reads, that it stays in order, that it is the walk over both lists, and that changes put
+-- one after another are their merge.
+use Rattle.std.proofs.Common.{ℕ, ◌≡◌, List, [], ◌∷◌, ◌++◌, Bool, true, false, cond, refl, ap, sym, subst, ◌∙◌, ◌⊎◌, inl, inr}
 use Rattle.std.specs.declared.option.Option.{Option}
 use Rattle.std.specs.declared.option.Option.TheVariants.{Some, None}
 use Rattle.std.specs.declared.cmp.Ordering.{Ordering}
 use Rattle.std.specs.declared.cmp.Ordering.TheVariants.{Less, Equal, Greater}
-use Rattle.std.specs.Ordering.{is_eq, is_gt, ordering_reverse}
-use Rattle.std.specs.List.{find, filter_map, cons_option}
-use Rattle.std.specs.Prelude.{map, slice_get, slice_set}
-use Rattle.std.specs.List.{insert}
-use Rattle.std.proofs.Common.{add-one}
-use Rattle.pg_keyed.specs.Keyed.{Above, Ascends, get, rank, over, put, weave, Fits, Each, merge, put_all, over_all, merge_all, behead}
-use Rattle.pg_keyed.specs.Orders.{Exact, same, turn, less, greater, cases}
+use Rattle.std.specs.Ordering.{is_eq, is_lt, is_gt}
+use Rattle.std.specs.List.{filter, filter_map, cons_option, insert}
+use Rattle.std.specs.Prelude.{map, not, ◌||◌, slice_get, slice_set, is_some}
+use Rattle.pg_keyed.specs.Lists.{each_map, each_append, each_filter, each_kept, each_given}
+use Rattle.pg_keyed.specs.Keyed.{Above, Ascends, get, rank, add, add_all, is_named, over, put, weave, Fits, Each, merge, put_all, over_all, behead}
+use Rattle.pg_keyed.specs.Orders.{Exact, same, turn, cases}
 use Rattle.pg_keyed.specs.Ranks.{above_none, above_less}
+use Rattle.pg_keyed.specs.Weaves.{weave_step, weave_ascends, weave_reads, weave_replaces, weave_adds}
+use Rattle.pg_keyed.specs.Reads.{filter_ascends, join_ascends, get_filter}
+pub use Rattle.pg_keyed.specs.Reads.{alike, get_here, get_there, here_or, get_key}
 
 some_is : {A : Type 0} (x y : A) → Some x ≡ Some y → x ≡ y
 some_is x y h = cc
 
-not_some : {A : Type 0} (x : A) → None ≡ Some x → ⊥
-not_some x h = cc
+-- the first of two, where there is one
+abbrev first_of : {X : Type 0} → Option X → Option X → Option X
+first_of (Some x) r = Some x
+first_of None r = r
 
--- lists in order that read alike are one
+first_none : {X : Type 0} (r : Option X) → first_of r None ≡ r
+first_none (Some x) = refl
+first_none None = refl
+
+less_is : (r : Ordering) → is_lt r ≡ true → r ≡ Less
+less_is Less h = refl
+less_is Equal h = cc
+less_is Greater h = cc
+
+greater_is : (r : Ordering) → is_gt r ≡ true → r ≡ Greater
+greater_is Less h = cc
+greater_is Equal h = cc
+greater_is Greater h = refl
+
+-- one item more
 module _ {X K : Type 0} (key : X → K) (cmp : K → K → Ordering) (o : Exact cmp) where
-  pub get_here : (x : X) (xs : List X) → get key cmp (key x) (x ∷ xs) ≡ Some x
-  get_here x xs = rw (ap is_eq (same o (key x))) refl
+  get_append : (k : K) (xs ys : List X) → get key cmp k (xs ++ ys) ≡ first_of (get key cmp k xs) (get key cmp k ys)
+  get_append k [] ys = refl
+  get_append k (x ∷ xs) ys = go (is_eq (cmp k (key x))) (get_append k xs ys)
+    where
+      go : (b : Bool) → get key cmp k (xs ++ ys) ≡ first_of (get key cmp k xs) (get key cmp k ys) → cond b (Some x) (get key cmp k (xs ++ ys)) ≡ first_of (cond b (Some x) (get key cmp k xs)) (get key cmp k ys)
+      go true h = refl
+      go false h = h
 
-  pub get_there : (k : K) (x : X) (xs : List X) → is_eq (cmp k (key x)) ≡ false → get key cmp k (x ∷ xs) ≡ get key cmp k xs
-  get_there k x xs h = rw h refl
+  add_each : (Q : X → Type 0) (x : X) (xs : List X) → Q x → Each Q xs → Each Q (add key cmp x xs)
+  add_each Q x xs q h = each_append Q _ _ (each_filter Q (λ y. is_lt (cmp (key y) (key x))) xs h) (q, each_filter Q (λ y. is_gt (cmp (key y) (key x))) xs h)
 
-  -- the key is the item's, or the item is passed
-  pub here_or : (k : K) (x : X) → (k ≡ key x) ⊎ (is_eq (cmp k (key x)) ≡ false)
-  here_or k x = elim (cases (cmp k (key x))) [
-      inl le ↦ elim le [ inl h ↦ inr (ap is_eq h) | inr h ↦ inl (o.exact k (key x) h) ]
-    | inr h ↦ inr (ap is_eq h) ]
+  pub add_ascends : (x : X) (xs : List X) → Ascends key cmp xs → Ascends key cmp (add key cmp x xs)
+  add_ascends x xs a =
+      let before = λ (y : X). is_lt (cmp (key y) (key x)) in
+      let after = λ (y : X). is_gt (cmp (key y) (key x)) in
+      join_ascends key cmp o (filter before xs) x (filter after xs) (filter_ascends key cmp o before xs a)
+        (each_map (λ y. before y ≡ true) (λ y. cmp (key y) (key x) ≡ Less) (λ y e. less_is _ e) (filter before xs) (each_kept before xs))
+        (each_map (λ y. after y ≡ true) (λ y. cmp (key x) (key y) ≡ Less) (λ y e. turn o (key y) (key x) Greater (greater_is _ e)) (filter after xs) (each_kept after xs))
+        (filter_ascends key cmp o after xs a)
 
-  none_there : (x : X) (xs : List X) → Above key cmp (key x) xs → get key cmp (key x) xs ≡ None
-  none_there x xs a = above_none key cmp o (key x) xs a
+  pub add_reads : (k : K) (x : X) (xs : List X) → get key cmp k (add key cmp x xs) ≡ cond (is_eq (cmp k (key x))) (Some x) (get key cmp k xs)
+  add_reads k x xs = get_append k before (x ∷ after) ∙ ap (λ m. first_of m (get key cmp k (x ∷ after))) (get_filter key cmp o (λ j. is_lt (cmp j (key x))) k xs) ∙ go (cmp k (key x)) refl
+    where
+      before : List X
+      before = filter (λ y. is_lt (cmp (key y) (key x))) xs
+      after : List X
+      after = filter (λ y. is_gt (cmp (key y) (key x))) xs
+      behind : get key cmp k after ≡ cond (is_gt (cmp k (key x))) (get key cmp k xs) None
+      behind = get_filter key cmp o (λ j. is_gt (cmp j (key x))) k xs
+      go : (r : Ordering) → cmp k (key x) ≡ r → first_of (cond (is_lt r) (get key cmp k xs) None) (cond (is_eq r) (Some x) (get key cmp k after)) ≡ cond (is_eq r) (Some x) (get key cmp k xs)
+      go Less e = ap (first_of (get key cmp k xs)) (behind ∙ ap (λ r. cond (is_gt r) (get key cmp k xs) None) e) ∙ first_none (get key cmp k xs)
+      go Equal e = refl
+      go Greater e = behind ∙ ap (λ r. cond (is_gt r) (get key cmp k xs) None) e
 
-  pub alike : (xs ys : List X) → Ascends key cmp xs → Ascends key cmp ys → ((k : K) → get key cmp k xs ≡ get key cmp k ys) → xs ≡ ys
-  alike [] [] a b h = refl
-  alike [] (y ∷ ys) a b h = absurd (not_some y (h (key y) ∙ get_here y ys))
-  alike (x ∷ xs) [] a b h = absurd (not_some x (sym (h (key x)) ∙ get_here x xs))
-  alike (x ∷ xs) (y ∷ ys) a b h =
-      let first : x ≡ y = elim (cases (cmp (key x) (key y))) [
-          inl le ↦ elim le [
-              inl l ↦ absurd (not_some x (sym (get_there (key x) y ys (ap is_eq l) ∙ above_none key cmp o (key x) ys (above_less key cmp o (key x) (key y) ys l b.0)) ∙ sym (h (key x)) ∙ get_here x xs))
-            | inr e ↦ some_is x y (sym (get_here x xs) ∙ h (key x) ∙ ap (λ k. get key cmp k (y ∷ ys)) (o.exact (key x) (key y) e) ∙ get_here y ys) ]
-        | inr g ↦ (let l = turn o (key x) (key y) Greater g in absurd (not_some y (sym (get_there (key y) x xs (ap is_eq l) ∙ above_none key cmp o (key y) xs (above_less key cmp o (key y) (key x) xs l a.0)) ∙ h (key y) ∙ get_here y ys))) ] in
-      let rest : (k : K) → get key cmp k xs ≡ get key cmp k ys = λ k. elim (here_or k x) [
-          inl e ↦ ap (λ j. get key cmp j xs) e ∙ none_there x xs a.0 ∙ sym (none_there y ys b.0) ∙ ap (λ j. get key cmp j ys) (sym (e ∙ ap key first))
-        | inr n ↦ sym (get_there k x xs n) ∙ h k ∙ get_there k y ys (ap (λ z. is_eq (cmp k (key z))) (sym first) ∙ n) ] in
-      let more : xs ≡ ys = alike xs ys a.1 b.1 rest in
-      λ i. first i ∷ more i
+  add_all_ascends : (xs ys : List X) → Ascends key cmp xs → Ascends key cmp (add_all key cmp xs ys)
+  add_all_ascends xs [] a = a
+  add_all_ascends xs (y ∷ ys) a = add_all_ascends (add key cmp y xs) ys (add_ascends y xs a)
+
+  add_all_each : (Q : X → Type 0) (xs ys : List X) → Each Q xs → Each Q ys → Each Q (add_all key cmp xs ys)
+  add_all_each Q xs [] h k = h
+  add_all_each Q xs (y ∷ ys) h k = add_all_each Q (add key cmp y xs) ys (add_each Q y xs k.0 h) k.1
 
 -- the laws of `put`
 module _ {X W K : Type 0} (key : X → K) (named : W → K) (row : W → Option X) (cmp : K → K → Ordering) (o : Exact cmp) where
@@ -63,137 +93,110 @@ module _ {X W K : Type 0} (key : X → K) (named : W → K) (row : W → Option 
   abbrev N : K → List W → Option W
   N k ws = get named cmp k ws
 
-  -- an item that a change gives, before items above the change's key
-  cons_above : (k : K) (w : W) (xs : List X) → ((x : X) → row w ≡ Some x → key x ≡ named w) → cmp k (named w) ≡ Less → Above key cmp k xs → Above key cmp k (cons_option (row w) xs)
-  cons_above k w xs f l a = go (row w) f
-    where
-      go : (r : Option X) → ((x : X) → r ≡ Some x → key x ≡ named w) → Above key cmp k (cons_option r xs)
-      go None g = a
-      go (Some x) g = (ap (cmp k) (g x refl) ∙ l, a)
+  -- what holds of each item and of each that a change gives
+  pub put_each : (Q : X → Type 0) (xs : List X) (ws : List W) → Each Q xs → Each (λ w. (x : X) → row w ≡ Some x → Q x) ws → Each Q (P xs ws)
+  put_each Q xs ws a b = add_all_each key cmp o Q (filter (λ x. not (is_named named cmp (key x) ws)) xs) (filter_map row ws)
+      (each_filter Q (λ x. not (is_named named cmp (key x) ws)) xs a) (each_given Q row ws b)
 
-  cons_ascends : (w : W) (xs : List X) → ((x : X) → row w ≡ Some x → key x ≡ named w) → Above key cmp (named w) xs → Ascends key cmp xs → Ascends key cmp (cons_option (row w) xs)
-  cons_ascends w xs f a s = go (row w) f
-    where
-      go : (r : Option X) → ((x : X) → r ≡ Some x → key x ≡ named w) → Ascends key cmp (cons_option r xs)
-      go None g = s
-      go (Some x) g = (subst (λ k. Above key cmp k xs) (sym (g x refl)) a, s)
-
-  fits_above : (k : K) (ws : List W) → Fits key named row cmp ws → Above named cmp k ws → Above key cmp k (filter_map row ws)
-  fits_above k [] f a = tt
-  fits_above k (w ∷ ws) f a = cons_above k w (filter_map row ws) f.0 a.0 (fits_above k ws f.1 a.1)
+  given_above : (k : K) (ws : List W) → Fits key named row cmp ws → Above named cmp k ws → Each (λ w. (x : X) → row w ≡ Some x → cmp k (key x) ≡ Less) ws
+  given_above k [] f a = tt
+  given_above k (w ∷ ws) f a = ((λ x e. ap (cmp k) (f.0 x e) ∙ a.0), given_above k ws f.1 a.1)
 
   pub put_above : (k : K) (xs : List X) (ws : List W) → Fits key named row cmp ws → Above key cmp k xs → Above named cmp k ws → Above key cmp k (P xs ws)
-  put_above k [] ws f a b = fits_above k ws f b
-  put_above k (x ∷ xs) ws f a b = go (λ vs g c. put_above k xs vs g a.1 c) ws f b
-    where
-      go : ((vs : List W) → Fits key named row cmp vs → Above named cmp k vs → Above key cmp k (P xs vs)) → (ws : List W) → Fits key named row cmp ws → Above named cmp k ws → Above key cmp k (weave key named row cmp x (put key named row cmp xs) ws)
-      go again [] f b = (a.0, again [] tt tt)
-      go again (w ∷ ws) f b = elim (cmp (key x) (named w)) as (λ r. Above key cmp k (elim r [ Less ↦ x ∷ P xs (w ∷ ws) | Equal ↦ cons_option (row w) (P xs ws) | Greater ↦ cons_option (row w) (weave key named row cmp x (put key named row cmp xs) ws) ])) [
-          Less ↦ (a.0, again (w ∷ ws) f b)
-        | Equal ↦ cons_above k w (P xs ws) f.0 b.0 (again ws f.1 b.1)
-        | Greater ↦ cons_above k w (weave key named row cmp x (put key named row cmp xs) ws) f.0 b.0 (go again ws f.1 b.1) ]
-
-  -- one step of the walk, by how the two first keys compare
-  abbrev step : Ordering → X → List X → W → List W → List X
-  step r x xs w ws = elim r [ Less ↦ x ∷ P xs (w ∷ ws) | Equal ↦ cons_option (row w) (P xs ws) | Greater ↦ cons_option (row w) (P (x ∷ xs) ws) ]
-
-  pub put_step : (r : Ordering) (x : X) (xs : List X) (w : W) (ws : List W) → cmp (key x) (named w) ≡ r → P (x ∷ xs) (w ∷ ws) ≡ step r x xs w ws
-  put_step r x xs w ws e = ap (λ q. step q x xs w ws) e
+  put_above k xs ws f a b = put_each (λ x. cmp k (key x) ≡ Less) xs ws a (given_above k ws f b)
 
   pub put_nothing : (xs : List X) → P xs [] ≡ xs
   put_nothing [] = refl
   put_nothing (x ∷ xs) = ap (λ ys. x ∷ ys) (put_nothing xs)
 
-  -- a list in order after a change in order, the first of each compared
   pub put_ascends : (xs : List X) (ws : List W) → Fits key named row cmp ws → Ascends key cmp xs → Ascends named cmp ws → Ascends key cmp (P xs ws)
-  put_ascends [] ws f a b = go ws f b
+  put_ascends xs ws f a b = add_all_ascends key cmp o (filter (λ x. not (is_named named cmp (key x) ws)) xs) (filter_map row ws) (filter_ascends key cmp o (λ x. not (is_named named cmp (key x) ws)) xs a)
+
+  -- a key is named where there is a change of it
+  pub named_is : (k : K) (ws : List W) → is_named named cmp k ws ≡ is_some (N k ws)
+  named_is k [] = refl
+  named_is k (w ∷ ws) = go (is_eq (cmp k (named w))) (named_is k ws)
     where
-      go : (ws : List W) → Fits key named row cmp ws → Ascends named cmp ws → Ascends key cmp (filter_map row ws)
-      go [] f b = tt
-      go (w ∷ ws) f b = cons_ascends w (filter_map row ws) f.0 (fits_above (named w) ws f.1 b.0) (go ws f.1 b.1)
-  put_ascends (x ∷ xs) ws f a b = go (λ vs g c. put_ascends xs vs g a.1 c) ws f b
+      go : (b : Bool) → is_named named cmp k ws ≡ is_some (N k ws) → (b || is_named named cmp k ws) ≡ is_some (cond b (Some w) (N k ws))
+      go true h = refl
+      go false h = h
+
+  -- what is read where the items that changes give are added
+  added_reads : (k : K) (xs : List X) (ws : List W) → Fits key named row cmp ws → Ascends named cmp ws → G k (add_all key cmp xs (filter_map row ws)) ≡ first_of (over row (N k ws) None) (G k xs)
+  added_reads k xs [] f b = refl
+  added_reads k xs (w ∷ ws) f b = go (row w) refl f.0 (λ ys. added_reads k ys ws f.1 b.1)
     where
-      go : ((vs : List W) → Fits key named row cmp vs → Ascends named cmp vs → Ascends key cmp (P xs vs)) → (ws : List W) → Fits key named row cmp ws → Ascends named cmp ws → Ascends key cmp (P (x ∷ xs) ws)
-      go again [] f b = (put_above (key x) xs [] tt a.0 tt, again [] tt tt)
-      go again (w ∷ ws) f b = elim (cases (cmp (key x) (named w))) [
-          inl le ↦ elim le [
-              inl l ↦ subst (λ ys. Ascends key cmp ys) (sym (put_step Less x xs w ws l))
-                (put_above (key x) xs (w ∷ ws) f a.0 (l, above_less named cmp o (key x) (named w) ws l b.0), again (w ∷ ws) f b)
-            | inr e ↦ subst (λ ys. Ascends key cmp ys) (sym (put_step Equal x xs w ws e))
-                (cons_ascends w (P xs ws) f.0 (put_above (named w) xs ws f.1 (subst (λ k. Above key cmp k xs) (o.exact (key x) (named w) e) a.0) b.0) (again ws f.1 b.1)) ]
-        | inr g ↦ (let l = turn o (key x) (named w) Greater g in subst (λ ys. Ascends key cmp ys) (sym (put_step Greater x xs w ws g))
-            (cons_ascends w (P (x ∷ xs) ws) f.0 (put_above (named w) (x ∷ xs) ws f.1 (l, above_less key cmp o (named w) (key x) xs l a.0) b.0) (go again ws f.1 b.1))) ]
+      rest : List X
+      rest = filter_map row ws
+      missed : k ≡ named w → N k ws ≡ None
+      missed e = ap (λ j. N j ws) e ∙ above_none named cmp o (named w) ws b.0
+      here : k ≡ named w → N k (w ∷ ws) ≡ Some w
+      here e = ap (λ j. N j (w ∷ ws)) e ∙ get_here named cmp o w ws
+      go : (r : Option X) → row w ≡ r → ((x : X) → row w ≡ Some x → key x ≡ named w) → ((ys : List X) → G k (add_all key cmp ys rest) ≡ first_of (over row (N k ws) None) (G k ys))
+          → G k (add_all key cmp xs (cons_option r rest)) ≡ first_of (over row (N k (w ∷ ws)) None) (G k xs)
+      go None e g again = elim (here_or named cmp o k w) [
+          inl q ↦ again xs ∙ ap (λ m. first_of (over row m None) (G k xs)) (missed q) ∙ sym (ap (λ m. first_of m (G k xs)) (ap (λ m. over row m None) (here q) ∙ e))
+        | inr n ↦ again xs ∙ ap (λ m. first_of (over row m None) (G k xs)) (sym (get_there named cmp o k w ws n)) ]
+      go (Some x) e g again =
+          let at : is_eq (cmp k (key x)) ≡ is_eq (cmp k (named w)) = ap (λ j. is_eq (cmp k j)) (g x e) in
+          again (add key cmp x xs) ∙ ap (first_of (over row (N k ws) None)) (add_reads key cmp o k x xs) ∙ elim (here_or named cmp o k w) [
+              inl q ↦ ap (λ m. first_of (over row m None) (cond (is_eq (cmp k (key x))) (Some x) (G k xs))) (missed q)
+                ∙ ap (λ c. cond c (Some x) (G k xs)) (at ∙ ap is_eq (subst (λ j. cmp k j ≡ Equal) q (same o k)))
+                ∙ sym (ap (λ m. first_of m (G k xs)) (ap (λ m. over row m None) (here q) ∙ e))
+            | inr n ↦ ap (λ c. first_of (over row (N k ws) None) (cond c (Some x) (G k xs))) (at ∙ n)
+                ∙ ap (λ m. first_of (over row m None) (G k xs)) (sym (get_there named cmp o k w ws n)) ]
 
-  -- what is read of an item that a change gives
-  cons_here : (w : W) (xs : List X) → ((x : X) → row w ≡ Some x → key x ≡ named w) → Above key cmp (named w) xs → G (named w) (cons_option (row w) xs) ≡ row w
-  cons_here w xs f a = go (row w) f
-    where
-      go : (r : Option X) → ((x : X) → r ≡ Some x → key x ≡ named w) → G (named w) (cons_option r xs) ≡ r
-      go None g = above_none key cmp o (named w) xs a
-      go (Some x) g = ap (λ b. cond b (Some x) (G (named w) xs)) (ap is_eq (subst (λ k. cmp (named w) k ≡ Equal) (sym (g x refl)) (same o (named w))))
-
-  cons_there : (k : K) (w : W) (xs : List X) → ((x : X) → row w ≡ Some x → key x ≡ named w) → is_eq (cmp k (named w)) ≡ false → G k (cons_option (row w) xs) ≡ G k xs
-  cons_there k w xs f n = go (row w) f
-    where
-      go : (r : Option X) → ((x : X) → r ≡ Some x → key x ≡ named w) → G k (cons_option r xs) ≡ G k xs
-      go None g = refl
-      go (Some x) g = ap (λ b. cond b (Some x) (G k xs)) (subst (λ j. is_eq (cmp k j) ≡ false) (sym (g x refl)) n)
-
-  abbrev R : K → List X → List W → Type 0
-  R k xs ws = G k (P xs ws) ≡ over row (N k ws) (G k xs)
-
-  -- the same where the walk takes a change: everything else is above it
-  takes : (k : K) (w : W) (xs : List X) (ys : List X) (ws : List W) → ((x : X) → row w ≡ Some x → key x ≡ named w) → Above key cmp (named w) ys
-      → (is_eq (cmp k (named w)) ≡ false → G k ys ≡ over row (N k ws) (G k xs))
-      → G k (cons_option (row w) ys) ≡ over row (N k (w ∷ ws)) (G k xs)
-  takes k w xs ys ws f a again = elim (here_or named cmp o k w) [
-      inl e ↦ ap (λ j. G j (cons_option (row w) ys)) e ∙ cons_here w ys f a ∙ sym (ap (λ n. over row n (G k xs)) (ap (λ j. N j (w ∷ ws)) e ∙ get_here named cmp o w ws))
-    | inr n ↦ cons_there k w ys f n ∙ again n ∙ sym (ap (λ m. over row m (G k xs)) (get_there named cmp o k w ws n)) ]
-
+  -- a key reads its change's item, or else what stood there
   pub put_reads : (k : K) (xs : List X) (ws : List W) → Fits key named row cmp ws → Ascends key cmp xs → Ascends named cmp ws → G k (P xs ws) ≡ over row (N k ws) (G k xs)
-  put_reads k [] ws f a b = go ws f b
+  put_reads k xs ws f a b =
+      added_reads k (filter (λ x. not (is_named named cmp (key x) ws)) xs) ws f b
+      ∙ ap (first_of (over row (N k ws) None)) (get_filter key cmp o (λ j. not (is_named named cmp j ws)) k xs ∙ ap (λ c. cond (not c) (G k xs) None) (named_is k ws))
+      ∙ go (N k ws)
     where
-      go : (ws : List W) → Fits key named row cmp ws → Ascends named cmp ws → G k (filter_map row ws) ≡ over row (N k ws) None
-      go [] f b = refl
-      go (w ∷ ws) f b = takes k w [] (filter_map row ws) ws f.0 (fits_above (named w) ws f.1 b.0) (λ n. go ws f.1 b.1)
-  put_reads k (x ∷ xs) ws f a b = go (λ vs g c. put_reads k xs vs g a.1 c) ws f b
-    where
-      go : ((vs : List W) → Fits key named row cmp vs → Ascends named cmp vs → R k xs vs) → (ws : List W) → Fits key named row cmp ws → Ascends named cmp ws → R k (x ∷ xs) ws
-      go again [] f b = ap (G k) (put_nothing (x ∷ xs))
-      go again (w ∷ ws) f b = elim (cases (cmp (key x) (named w))) [
-          inl le ↦ elim le [
-              inl l ↦ ap (G k) (put_step Less x xs w ws l) ∙ elim (here_or key cmp o k x) [
-                  inl e ↦ ap (λ j. G j (x ∷ P xs (w ∷ ws))) e ∙ get_here key cmp o x (P xs (w ∷ ws))
-                    ∙ sym (ap (λ m. over row m (G k (x ∷ xs))) (ap (λ j. N j (w ∷ ws)) e ∙ above_none named cmp o (key x) (w ∷ ws) (l, above_less named cmp o (key x) (named w) ws l b.0)) ∙ ap (λ j. G j (x ∷ xs)) e ∙ get_here key cmp o x xs)
-                | inr n ↦ get_there key cmp o k x (P xs (w ∷ ws)) n ∙ again (w ∷ ws) f b ∙ ap (over row (N k (w ∷ ws))) (sym (get_there key cmp o k x xs n)) ]
-            | inr e ↦ ap (G k) (put_step Equal x xs w ws e) ∙ takes k w (x ∷ xs) (P xs ws) ws f.0
-                (put_above (named w) xs ws f.1 (subst (λ j. Above key cmp j xs) (o.exact (key x) (named w) e) a.0) b.0)
-                (λ n. again ws f.1 b.1 ∙ ap (over row (N k ws)) (sym (get_there key cmp o k x xs (ap (λ j. is_eq (cmp k j)) (o.exact (key x) (named w) e) ∙ n)))) ]
-        | inr g ↦ (let l = turn o (key x) (named w) Greater g in ap (G k) (put_step Greater x xs w ws g) ∙ takes k w (x ∷ xs) (P (x ∷ xs) ws) ws f.0
-            (put_above (named w) (x ∷ xs) ws f.1 (l, above_less key cmp o (named w) (key x) xs l a.0) b.0)
-            (λ n. go again ws f.1 b.1)) ]
+      go : (m : Option W) → first_of (over row m None) (cond (not (is_some m)) (G k xs) None) ≡ over row m (G k xs)
+      go (Some w) = first_none (row w)
+      go None = refl
 
-  -- what holds of each item and of each that a change gives
-  pub put_each : (Q : X → Type 0) (xs : List X) (ws : List W) → Each Q xs → Each (λ w. (x : X) → row w ≡ Some x → Q x) ws → Each Q (P xs ws)
-  put_each Q [] ws a b = go ws b
+  -- `put` is the walk over both lists
+  pub put_weave : (xs : List X) (ws : List W) → Fits key named row cmp ws → Ascends key cmp xs → Ascends named cmp ws → P xs ws ≡ weave key named row cmp xs ws
+  put_weave xs ws f a b = alike key cmp o (P xs ws) (weave key named row cmp xs ws) (put_ascends xs ws f a b) (weave_ascends key named row cmp o xs ws f a b)
+      (λ k. put_reads k xs ws f a b ∙ sym (weave_reads key named row cmp o k xs ws f a b))
+
+  -- one step of the walk, by how the two first keys compare
+  abbrev step : Ordering → X → List X → W → List W → List X
+  step r x xs w ws = elim r [ Less ↦ x ∷ P xs (w ∷ ws) | Equal ↦ cons_option (row w) (P xs ws) | Greater ↦ cons_option (row w) (P (x ∷ xs) ws) ]
+
+  pub put_step : (r : Ordering) (x : X) (xs : List X) (w : W) (ws : List W) → Fits key named row cmp (w ∷ ws) → Ascends key cmp (x ∷ xs) → Ascends named cmp (w ∷ ws) → cmp (key x) (named w) ≡ r → P (x ∷ xs) (w ∷ ws) ≡ step r x xs w ws
+  put_step r x xs w ws f a b e = put_weave (x ∷ xs) (w ∷ ws) f a b ∙ weave_step key named row cmp o r x xs w ws e ∙ go r
     where
-      one : (r : Option X) (ys : List X) → ((x : X) → r ≡ Some x → Q x) → Each Q ys → Each Q (cons_option r ys)
-      one None ys f e = e
-      one (Some x) ys f e = (f x refl, e)
-      go : (ws : List W) → Each (λ w. (x : X) → row w ≡ Some x → Q x) ws → Each Q (filter_map row ws)
-      go [] b = tt
-      go (w ∷ ws) b = one (row w) (filter_map row ws) b.0 (go ws b.1)
-  put_each Q (x ∷ xs) ws a b = go (λ vs c. put_each Q xs vs a.1 c) ws b
+      go : (q : Ordering) → elim q [ Less ↦ x ∷ weave key named row cmp xs (w ∷ ws) | Equal ↦ cons_option (row w) (weave key named row cmp xs ws) | Greater ↦ cons_option (row w) (weave key named row cmp (x ∷ xs) ws) ] ≡ step q x xs w ws
+      go Less = ap (λ ys. x ∷ ys) (sym (put_weave xs (w ∷ ws) f a.1 b))
+      go Equal = ap (cons_option (row w)) (sym (put_weave xs ws f.1 a.1 b.1))
+      go Greater = ap (cons_option (row w)) (sym (put_weave (x ∷ xs) ws f.1 a b.1))
+
+  -- no items: those that the changes give
+  pub put_on_nothing : (ws : List W) → Fits key named row cmp ws → Ascends named cmp ws → P [] ws ≡ filter_map row ws
+  put_on_nothing ws f b = put_weave [] ws f tt b
+
+  fits_filter : (t : W → Bool) (ws : List W) → Fits key named row cmp ws → Fits key named row cmp (filter t ws)
+  fits_filter t ws f = each_filter (λ w. (x : X) → row w ≡ Some x → key x ≡ named w) t ws f
+
+  -- filtering by the key, before or after
+  pub put_filter : (r : K → Bool) (xs : List X) (ws : List W) → Fits key named row cmp ws → Ascends key cmp xs → Ascends named cmp ws
+      → filter (λ x. r (key x)) (P xs ws) ≡ P (filter (λ x. r (key x)) xs) (filter (λ w. r (named w)) ws)
+  put_filter r xs ws f a b =
+      let fw = fits_filter (λ w. r (named w)) ws f in
+      let ax = filter_ascends key cmp o (λ x. r (key x)) xs a in
+      let bw = filter_ascends named cmp o (λ w. r (named w)) ws b in
+      alike key cmp o _ _ (filter_ascends key cmp o (λ x. r (key x)) (P xs ws) (put_ascends xs ws f a b)) (put_ascends _ _ fw ax bw)
+        (λ k. get_filter key cmp o r k (P xs ws) ∙ ap (λ m. cond (r k) m None) (put_reads k xs ws f a b)
+          ∙ both (r k) (N k ws) (G k xs)
+          ∙ sym (put_reads k (filter (λ x. r (key x)) xs) (filter (λ w. r (named w)) ws) fw ax bw
+              ∙ (λ i. over row (get_filter named cmp o r k ws i) (get_filter key cmp o r k xs i))))
     where
-      one : (r : Option X) (ys : List X) → ((x : X) → r ≡ Some x → Q x) → Each Q ys → Each Q (cons_option r ys)
-      one None ys f e = e
-      one (Some x) ys f e = (f x refl, e)
-      go : ((vs : List W) → Each (λ w. (x : X) → row w ≡ Some x → Q x) vs → Each Q (P xs vs)) → (ws : List W) → Each (λ w. (x : X) → row w ≡ Some x → Q x) ws → Each Q (P (x ∷ xs) ws)
-      go again [] b = (a.0, again [] tt)
-      go again (w ∷ ws) b = elim (cmp (key x) (named w)) as (λ r. Each Q (step r x xs w ws)) [
-          Less ↦ (a.0, again (w ∷ ws) b)
-        | Equal ↦ one (row w) (P xs ws) b.0 (again ws b.1)
-        | Greater ↦ one (row w) (P (x ∷ xs) ws) b.0 (go again ws b.1) ]
+      both : (c : Bool) (m : Option W) (q : Option X) → cond c (over row m q) None ≡ over row (cond c m None) (cond c q None)
+      both true m q = refl
+      both false m q = refl
 
 -- the merge of two lists of changes
 module _ {W K : Type 0} (named : W → K) (cmp : K → K → Ordering) (o : Exact cmp) where
@@ -204,12 +207,12 @@ module _ {W K : Type 0} (named : W → K) (cmp : K → K → Ordering) (o : Exac
   pub merge_ascends : (a b : List W) → Ascends named cmp a → Ascends named cmp b → Ascends named cmp (merge named cmp a b)
   merge_ascends a b h k = put_ascends named named (λ (w : W). Some w) cmp o a b (own_fits b) h k
 
-  each_given : (Q : W → Type 0) (ws : List W) → Each Q ws → Each (λ w. (x : W) → Some w ≡ Some x → Q x) ws
-  each_given Q [] h = tt
-  each_given Q (w ∷ ws) h = (λ x e. subst Q (some_is w x e) h.0, each_given Q ws h.1)
+  each_own : (Q : W → Type 0) (ws : List W) → Each Q ws → Each (λ w. (x : W) → Some w ≡ Some x → Q x) ws
+  each_own Q [] h = tt
+  each_own Q (w ∷ ws) h = (λ x e. subst Q (some_is w x e) h.0, each_own Q ws h.1)
 
   pub merge_each : (Q : W → Type 0) (a b : List W) → Each Q a → Each Q b → Each Q (merge named cmp a b)
-  merge_each Q a b h k = put_each named named (λ (w : W). Some w) cmp o Q a b h (each_given Q b k)
+  merge_each Q a b h k = put_each named named (λ (w : W). Some w) cmp o Q a b h (each_own Q b k)
 
   -- where both have a change of a key, the newer's
   abbrev pub newer : Option W → Option W → Option W
@@ -253,34 +256,16 @@ module _ {X W K : Type 0} (key : X → K) (named : W → K) (row : W → Option 
 
 -- one change put on a list of changes
 module _ {W K : Type 0} (named : W → K) (cmp : K → K → Ordering) (o : Exact cmp) where
-  pub one_replaces : (xs : List W) (w x : W) (i : ℕ) → i ≡ rank named cmp (named w) xs → slice_get xs i ≡ Some x → cmp (named w) (named x) ≡ Equal → merge named cmp xs (w ∷ []) ≡ slice_set xs i w
-  one_replaces [] w x i r s e = absurd (not_some x s)
-  one_replaces (y ∷ ys) w x i r s e = elim (cases (cmp (named w) (named y))) [
-      inl le ↦ elim le [
-          inl l ↦ (let z : i ≡ 0 = r ∙ ap (λ b. cond b (rank named cmp (named w) ys + 1) 0) (ap is_gt l) in
-            let yx : y ≡ x = some_is y x (sym (ap (λ j. slice_get (y ∷ ys) j) z) ∙ s) in
-            absurd (less_equal (sym l ∙ ap (λ q. cmp (named w) (named q)) yx ∙ e)))
-        | inr q ↦ (let z : i ≡ 0 = r ∙ ap (λ b. cond b (rank named cmp (named w) ys + 1) 0) (ap is_gt q) in
-            put_step named named (λ (v : W). Some v) cmp o Equal y ys w [] (turn o (named w) (named y) Equal q) ∙ ap (λ zs. w ∷ zs) (put_nothing named named (λ (v : W). Some v) cmp o ys) ∙ sym (ap (λ j. slice_set (y ∷ ys) j w) z)) ]
-    | inr g ↦ (let z : i ≡ suc (rank named cmp (named w) ys) = r ∙ ap (λ b. cond b (rank named cmp (named w) ys + 1) 0) (ap is_gt g) ∙ rw add-one refl in
-        put_step named named (λ (v : W). Some v) cmp o Less y ys w [] (turn o (named w) (named y) Greater g)
-        ∙ ap (λ zs. y ∷ zs) (one_replaces ys w x (rank named cmp (named w) ys) refl (sym (ap (λ j. slice_get (y ∷ ys) j) z) ∙ s) e)
-        ∙ sym (ap (λ j. slice_set (y ∷ ys) j w) z)) ]
-    where
-      less_equal : Less ≡ Equal → ⊥
-      less_equal h = cc
+  pub one_woven : (xs : List W) (w : W) → Ascends named cmp xs → merge named cmp xs (w ∷ []) ≡ weave named named (λ (v : W). Some v) cmp xs (w ∷ [])
+  one_woven xs w a = put_weave named named (λ (v : W). Some v) cmp o xs (w ∷ []) (own_fits named cmp o (w ∷ [])) a (tt, tt)
 
-  pub one_added : (xs : List W) (w : W) (i : ℕ) → i ≡ rank named cmp (named w) xs → get named cmp (named w) xs ≡ None → merge named cmp xs (w ∷ []) ≡ insert xs i w
-  one_added [] w i r n = sym (ap (λ j. insert [] j w) r)
-  one_added (y ∷ ys) w i r n = elim (cases (cmp (named w) (named y))) [
-      inl le ↦ elim le [
-          inl l ↦ (let z : i ≡ 0 = r ∙ ap (λ b. cond b (rank named cmp (named w) ys + 1) 0) (ap is_gt l) in
-            put_step named named (λ (v : W). Some v) cmp o Greater y ys w [] (turn o (named w) (named y) Less l) ∙ ap (λ zs. w ∷ zs) (put_nothing named named (λ (v : W). Some v) cmp o (y ∷ ys)) ∙ sym (ap (λ j. insert (y ∷ ys) j w) z))
-        | inr q ↦ absurd (not_some y (sym n ∙ ap (λ b. cond b (Some y) (get named cmp (named w) ys)) (ap is_eq q))) ]
-    | inr g ↦ (let z : i ≡ suc (rank named cmp (named w) ys) = r ∙ ap (λ b. cond b (rank named cmp (named w) ys + 1) 0) (ap is_gt g) ∙ rw add-one refl in
-        put_step named named (λ (v : W). Some v) cmp o Less y ys w [] (turn o (named w) (named y) Greater g)
-        ∙ ap (λ zs. y ∷ zs) (one_added ys w (rank named cmp (named w) ys) refl (sym (get_there named cmp o (named w) y ys (ap is_eq g)) ∙ n))
-        ∙ sym (ap (λ j. insert (y ∷ ys) j w) z)) ]
+  -- it takes the place of one of the same key
+  pub one_replaces : (xs : List W) (w x : W) (i : ℕ) → Ascends named cmp xs → i ≡ rank named cmp (named w) xs → slice_get xs i ≡ Some x → cmp (named w) (named x) ≡ Equal → merge named cmp xs (w ∷ []) ≡ slice_set xs i w
+  one_replaces xs w x i a r s e = one_woven xs w a ∙ weave_replaces named cmp o xs w x i r s e
+
+  -- or else it comes in at its place
+  pub one_added : (xs : List W) (w : W) (i : ℕ) → Ascends named cmp xs → i ≡ rank named cmp (named w) xs → get named cmp (named w) xs ≡ None → merge named cmp xs (w ∷ []) ≡ insert xs i w
+  one_added xs w i a r n = one_woven xs w a ∙ weave_adds named cmp o xs w i r n
 
 -- one step of a walk over many lists: the change of the least key, and the lists without it
 module _ {X K : Type 0} (key : X → K) (cmp : K → K → Ordering) (o : Exact cmp) where
@@ -321,12 +306,6 @@ module _ {X K : Type 0} (key : X → K) (cmp : K → K → Ordering) (o : Exact 
   head_reads k (x ∷ xs) f a = elim (not_less k x f) [
       inl l ↦ get_there key cmp o k x xs (ap is_eq l) ∙ above_none key cmp o k xs (above_less key cmp o k (key x) xs l a.0) ∙ sym (ap (λ b. cond b (Some x) None) (ap is_eq l))
     | inr e ↦ ap (λ b. cond b (Some x) (get key cmp k xs)) (ap is_eq e) ∙ sym (ap (λ b. cond b (Some x) None) (ap is_eq e)) ]
-
-  pub get_key : (k : K) (xs : List X) (x : X) → get key cmp k xs ≡ Some x → k ≡ key x
-  get_key k [] x h = absurd (not_some x h)
-  get_key k (y ∷ ys) x h = elim (here_or key cmp o k y) [
-      inl e ↦ e ∙ ap key (some_is y x (sym (ap (λ j. get key cmp j (y ∷ ys)) e ∙ get_here key cmp o y ys) ∙ h))
-    | inr n ↦ get_key k ys x (sym (get_there key cmp o k y ys n) ∙ h) ]
 
 module _ {X W K : Type 0} (key : X → K) (named : W → K) (row : W → Option X) (cmp : K → K → Ordering) (o : Exact cmp) where
   abbrev pub AllFrom : K → List (List W) → Type 0
