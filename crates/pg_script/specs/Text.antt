@@ -185,9 +185,13 @@ maker_text sections n = cond (n == 0) (codes "setup") (unwrap_or (option_map (λ
 abbrev pub commit_text : List SectionOut → List (List ℕ) → Commit → List ℕ
 commit_text sections tables c = line (maker_text sections c.session ++ from_text c.from) ++ flat_map (write_line tables) c.writes.list
 
+abbrev pub numbered_commit_text : List SectionOut → List (List ℕ) → ℕ → Commit → List ℕ
+numbered_commit_text sections tables n c = decimal n ++ (codes " " ++ commit_text sections tables c)
+
+-- commits, numbered from n
 abbrev pub commits_text : List SectionOut → List (List ℕ) → ℕ → List Commit → List ℕ
 commits_text sections tables n [] = []
-commits_text sections tables n (c ∷ cs) = decimal n ++ (codes " " ++ (commit_text sections tables c ++ commits_text sections tables (n + 1) cs))
+commits_text sections tables n (c ∷ cs) = numbered_commit_text sections tables n c ++ commits_text sections tables (n + 1) cs
 
 abbrev pub log_text : Transcript → List ℕ
 log_text t = line (codes "@log " ++ decimal (length t.log)) ++ commits_text t.sections t.tables 1 t.log

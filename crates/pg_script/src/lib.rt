@@ -7,5 +7,6 @@ mod script;
 mod transcript;
 
 pub use outcome::{ColumnFault, FaultKind, Outcome};
+pub use printing::print;
 pub use script::{Item, Script, Section};
 pub use transcript::{SectionOut, Transcript};

@@ -8,10 +8,29 @@ ghost use Rattle.std.specs.Prelude.{◌≡◌, ◌++◌, IfOk, OnOk};
 ghost use Rattle.std.specs.List.{flat_map};
 ghost use Rattle.pg_script.specs.Text.{answers_text, end_text, peak_text, session_text, sections_text, setup_text, text_of};
 
-use crate::SectionOut;
+use crate::{SectionOut, Transcript};
+use log::push_log;
 use outcome::push_outcomes;
 use pg_value::Text;
 use std::alloc::{AllocError, Global};
+
+/// The text of a transcript: its sections, its log, its peak and `@end`, each line ending with a line feed. Only want of
+/// memory refuses it. A table or a section that the log names and that the transcript doesn't have prints no name.
+pub fn print(alloc: Global, transcript: &Transcript) -> Result<Text, AllocError>
+    ensures { IfOk result (λ text. text ≡ text_of transcript.now) }
+{
+    let mut out = Text::new(alloc);
+    push_sections(
+        alloc,
+        &mut out,
+        transcript.has_setup,
+        transcript.sections.as_slice(),
+    )?;
+    push_log(alloc, &mut out, transcript)?;
+    push_peak(alloc, &mut out, &transcript.peak)?;
+    out.push_str("@end\n")?;
+    Ok(out)
+}
 
 fn push_sections(
     alloc: Global,

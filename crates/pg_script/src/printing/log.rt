@@ -1,11 +1,72 @@
 ghost use Rattle.std.specs.Prelude.{◌≡◌, ◌++◌, ◌+◌, ◌<◌, ◌^◌, length, OnOk};
 ghost use Rattle.std.specs.List.{flat_map};
-ghost use Rattle.pg_script.specs.Text.{maker_text, name_at, place_text, write_line};
+ghost use Rattle.pg_script.specs.Text.{commit_text, commits_text, log_text, maker_text, name_at, numbered_commit_text, place_text, write_line};
 
-use crate::SectionOut;
-use crate::printing::words::{push_place, push_tuple};
-use pg_value::{Key, Text, Write};
+use crate::{SectionOut, Transcript};
+use crate::printing::words::{push_from, push_place, push_tuple};
+use pg_value::{Commit, Key, Text, Write};
 use std::alloc::{AllocError, Global};
+
+/// Appends the log: how many commits it has, and each with its number from 1, its section, its version and its writes.
+pub fn push_log(alloc: Global, out: &mut Text, transcript: &Transcript) -> Result<(), AllocError>
+    ensures { OnOk result (out.new ≡ out.old ++ log_text transcript.now) }
+{
+    out.push_str("@log ")?;
+    out.push_number(alloc, transcript.log.len() as u64)?;
+    out.push_str("\n")?;
+    push_commits(
+        alloc,
+        out,
+        transcript.sections.as_slice(),
+        transcript.tables.as_slice(),
+        transcript.log.as_slice(),
+    )
+}
+
+fn push_commits(
+    alloc: Global,
+    out: &mut Text,
+    sections: &[SectionOut],
+    tables: &[Text],
+    commits: &[Commit],
+) -> Result<(), AllocError>
+    ensures { OnOk result (out.new ≡ out.old ++ commits_text sections.now tables.now 1 commits.now) }
+{
+    for (i, commit) in commits.iter().enumerate() {
+        push_numbered_commit(alloc, out, sections, tables, i as u64 + 1, commit)?;
+    }
+    Ok(())
+}
+
+fn push_numbered_commit(
+    alloc: Global,
+    out: &mut Text,
+    sections: &[SectionOut],
+    tables: &[Text],
+    number: u64,
+    commit: &Commit,
+) -> Result<(), AllocError>
+    ensures { OnOk result (out.new ≡ out.old ++ numbered_commit_text sections.now tables.now number commit.now) }
+{
+    out.push_number(alloc, number)?;
+    out.push_str(" ")?;
+    push_commit(alloc, out, sections, tables, commit)
+}
+
+fn push_commit(
+    alloc: Global,
+    out: &mut Text,
+    sections: &[SectionOut],
+    tables: &[Text],
+    commit: &Commit,
+) -> Result<(), AllocError>
+    ensures { OnOk result (out.new ≡ out.old ++ commit_text sections.now tables.now commit.now) }
+{
+    push_maker(out, sections, commit.session)?;
+    push_from(alloc, out, commit.from)?;
+    out.push_str("\n")?;
+    push_writes(alloc, out, tables, commit.writes.as_slice())
+}
 
 /// Appends what made a commit: `setup` for section 0, else the section's name, as it is.
 fn push_maker(out: &mut Text, sections: &[SectionOut], session: u32) -> Result<(), AllocError>
@@ -59,4 +120,18 @@ fn push_write(
             out.push_str("\n")
         }
     }
+}
+
+fn push_writes(
+    alloc: Global,
+    out: &mut Text,
+    tables: &[Text],
+    writes: &[Write],
+) -> Result<(), AllocError>
+    ensures { OnOk result (out.new ≡ out.old ++ flat_map (write_line tables.now) writes.now) }
+{
+    for write in writes {
+        push_write(alloc, out, tables, write)?;
+    }
+    Ok(())
 }
