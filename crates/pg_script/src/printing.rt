@@ -2,6 +2,8 @@
 
 mod log;
 mod outcome;
+#[cfg(test)]
+mod tests;
 mod words;
 
 ghost use Rattle.std.specs.Prelude.{◌≡◌, ◌++◌, IfOk, OnOk};
@@ -15,7 +17,7 @@ use pg_value::Text;
 use std::alloc::{AllocError, Global};
 
 /// The text of a transcript: its sections, its log, its peak and `@end`, each line ending with a line feed. Only want of
-/// memory refuses it. A table or a section that the log names and that the transcript doesn't have prints no name.
+/// memory refuses it.
 pub fn print(alloc: Global, transcript: &Transcript) -> Result<Text, AllocError>
     ensures { IfOk result (λ text. text ≡ text_of transcript.now) }
 {

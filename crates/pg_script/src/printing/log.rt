@@ -2,8 +2,8 @@ ghost use Rattle.std.specs.Prelude.{◌≡◌, ◌++◌, ◌+◌, ◌<◌, ◌^�
 ghost use Rattle.std.specs.List.{flat_map};
 ghost use Rattle.pg_script.specs.Text.{commit_text, commits_text, log_text, maker_text, name_at, numbered_commit_text, place_text, write_line};
 
-use crate::{SectionOut, Transcript};
 use crate::printing::words::{push_from, push_place, push_tuple};
+use crate::{SectionOut, Transcript};
 use pg_value::{Commit, Key, Text, Write};
 use std::alloc::{AllocError, Global};
 
