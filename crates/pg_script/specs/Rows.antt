@@ -1,14 +1,13 @@
 -- Five small runs, on which the definitions of legal sessions are tried. Two tables, PERSON and KNOWS, are filled by the
 -- setup's two commits: persons 1 to 4, and six rows of KNOWS, of which the sixth names person 9, who is not there.
--- Each lemma holds for every language J that reads the items as said; what J says is taken as a premise, and what the
--- table of outcomes, the log and the versions say is computed.
-use Rattle.std.proofs.Common.{◌≡◌, ℕ, pos, ◌+◌, ◌<◌, ◌≤◌, List, [], ◌∷◌, ◌++◌, length, take, Bool, true, false, refl, sym, ap, ◌∙◌, arith, ◌==◌, cond, max, map, inl, inr}
+-- Each lemma holds for every language J that reads the items as said: what J says is a premise, and what the table of
+-- outcomes, the log and the versions say is computed. Behind each stands which wrong definition would make it false.
+use Rattle.std.proofs.Common.{◌≡◌, ℕ, pos, ◌≤◌, List, [], ◌∷◌, ◌++◌, length, refl, arith, ◌==◌, cond, max, map, inl, inr}
 use Rattle.std.specs.Prelude.{codes}
 use Rattle.std.specs.Fmt.{decimal}
 use Rattle.std.proofs.lemmas.Fmt.{decimal-digits_of}
 use Rattle.std.specs.List.Sorted.{IsSorted}
 use Rattle.std.specs.declared.cmp.Ordering.TheVariants.{Less}
-use Rattle.std.specs.declared.option.Option.{Option}
 use Rattle.std.specs.declared.option.Option.TheVariants.{Some, None}
 use Rattle.pg_value.specs.declared.value.Value.TheVariants.{Int, Text}
 use Rattle.pg_value.specs.declared.row.Row.{Row}
@@ -20,12 +19,12 @@ use Rattle.pg_value.specs.declared.write.Write.{Write}
 use Rattle.pg_value.specs.declared.write.Commit.{Commit}
 use Rattle.pg_value.specs.Graph.{edges}
 use Rattle.pg_value.specs.Orders.{row_order}
-use Rattle.pg_value.specs.Tables.{Tables, Stored, stored_at}
-use Rattle.pg_value.specs.Log.{after, conflict, held, put, view, IsLawful}
+use Rattle.pg_value.specs.Tables.{stored_at}
+use Rattle.pg_value.specs.Log.{after, conflict, view, IsLawful}
 use Rattle.pg_script.specs.declared.script.Item.{Item}
 use Rattle.pg_script.specs.declared.outcome.Outcome.{Outcome}
 use Rattle.pg_script.specs.declared.outcome.Outcome.TheVariants.{Began, Changed, ChangedAlone, Committed, Rows, After, Conflict}
-use Rattle.pg_script.specs.Judged.{Judges, Reading, Ruling, Effect, History, Open, Session, Judged, Ends, Begins, Commits, Changes, Asks, Waits, Fine, Done, begun, committed, changed, changed_alone, answered, waited, logged, conflicted}
+use Rattle.pg_script.specs.Judged.{Judges, Session, Judged, Begins, Commits, Changes, Asks, Waits, Fine, Done, begun, committed, changed, changed_alone, answered, waited, logged, conflicted}
 use Rattle.pg_script.specs.Session.{whole, Runs, number, printed}
 use Rattle.pg_script.specs.Text.{outcome_text}
 
@@ -111,17 +110,25 @@ module _ {K D C Q X Y : Type 0} (J : Judges K D C Q X Y) (catalog : K) (tables :
   -- b: `1 begin at 2`, `2 changed 1 at 2`, `3 refused Conflict PERSON (1) from 2 at 3`, by `begun`, `changed`, `committed`
   -- and `conflicted`; the transaction is then over. (False if a conflict named another commit, or left the transaction open.)
   pub lost_update_b : (outs : ℕ → List Outcome) (i j k : Item) (c : C) (x : X) → J.reads i Begins → J.reads j (Changes c) → J.reads k Commits → J.resolves catalog c (Fine x) → J.affects catalog (view lost_update 2 []) [] x (Done (person 1 (codes "B") ∷ []) 1) → Runs J (whole limit lost_update outs 2) 2 2 (closed catalog) (i ∷ j ∷ k ∷ []) (Began 2 ∷ Changed 1 2 ∷ Conflict (codes "PERSON") (key 1) 2 3 ∷ []) (closed catalog)
-  lost_update_b outs i j k c x begins changes commits resolves affects =
-    (opened catalog 2 [], begun 2 begins refl (omega arith, omega arith, λ _. refl) refl refl,
-    (opened catalog 2 (person 1 (codes "B") ∷ []), changed c x 2 1 [] _ _ changes resolves refl (omega arith, refl) affects refl refl,
-    (closed catalog, committed _ commits refl (λ e. cc) (conflicted (person 1 (codes "B")) 3 (omega arith, refl) (rw tables refl)) refl,
-    refl)))
+  lost_update_b outs i j k c x begins changes commits resolves affects = (
+    opened catalog 2 [],
+    begun 2 begins refl (omega arith, omega arith, λ _. refl) refl refl,
+    (
+      opened catalog 2 (person 1 (codes "B") ∷ []),
+      changed c x 2 1 [] _ _ changes resolves refl (omega arith, refl) affects refl refl,
+      (
+        closed catalog,
+        committed _ commits refl (λ e. cc) (conflicted (person 1 (codes "B")) 3 (omega arith, refl) (rw tables refl)) refl,
+        refl,
+      ),
+    ),
+  )
 
--- with b's commit in it the log is not lawful. (False if a lawful log did not look for conflicts, or only at the commit before.)
+-- with b's commit in it the log is not lawful. (False if a lawful log did not look for conflicts, or only within a section.)
 pub lost_update_unlawful : IsLawful limit (lost_update ++ commit 2 2 (person 1 (codes "B") ∷ []) ∷ []) → ⊥
 lost_update_unlawful lawful = let e = lawful.each.3.3.3.2 in cc
 
--- the line as it is printed
+-- the line as it is printed. (False if the version and the commit were exchanged, or the key stood without its parentheses.)
 pub lost_update_line : outcome_text (Conflict (codes "PERSON") (key 1) 2 3) ≡ codes "refused Conflict PERSON (1) from 2 at 3\n"
 lost_update_line =
     let one : decimal 1 ≡ codes "1" = decimal-digits_of 1 (omega arith) (omega arith) in
@@ -138,21 +145,38 @@ write_skew = setup ++ commit 1 2 (person 1 (codes "A") ∷ []) ∷ commit 2 2 (p
 -- compared by table alone.)
 pub write_skew_lawful : IsLawful limit write_skew
 write_skew_lawful = record {
-  each =
-    (omega arith, (λ e. cc), refl,
-    (omega arith, (λ e. cc), refl,
-    (omega arith, (λ e. cc), refl,
-    (omega arith, (λ e. cc), refl,
-    tt))));
+  each = (
+    omega arith,
+    (λ e. cc),
+    refl,
+    (
+      omega arith,
+      (λ e. cc),
+      refl,
+      (
+        omega arith,
+        (λ e. cc),
+        refl,
+        (
+          omega arith,
+          (λ e. cc),
+          refl,
+          tt,
+        ),
+      ),
+    ),
+  );
   within = omega arith;
 }
 
 module _ {K D C Q X Y : Type 0} (J : Judges K D C Q X Y) (catalog : K) where
-  -- b: `4 commit from 2 at 4`, by `committed` and `logged`
+  -- b: `4 commit from 2 at 4`, by `committed` and `logged`. (False if `logged` asked that nothing stood between the version and
+  -- the commit, or counted the setup's commits apart.)
   pub write_skew_b : (outs : ℕ → List Outcome) (item : Item) → J.reads item Commits → Judged J (whole limit write_skew outs 2) 2 2 (opened catalog 2 (person 2 (codes "B") ∷ [])) item (Committed 2 4) (closed catalog)
   write_skew_b outs item reads = committed _ reads refl (λ e. cc) (logged 4 (commit 2 2 (person 2 (codes "B") ∷ [])) (setup ++ commit 1 2 (person 1 (codes "A") ∷ []) ∷ [], [], refl, refl) (record { session = refl; from = refl; writes = refl }) refl) refl
 
-  -- b's query reads person 1 as version 2 has it, by `answered`, also after a's commit, which is the third
+  -- b's query reads person 1 as version 2 has it, by `answered`, also after a's commit, which is the third. (False if a query
+  -- in a transaction read the newest version.)
   pub write_skew_reads : (outs : ℕ → List Outcome) (item : Item) (q : Q) (y : Y) (rows : List Row) → J.reads item (Asks q) → J.checks catalog q (Fine y) → J.answers catalog (view write_skew 2 []) y rows → IsSorted row_order rows → Judged J (whole limit write_skew outs 2) 2 2 (opened catalog 2 []) item (Rows 2 0 (J.columns y) rows) (opened catalog 2 [])
   write_skew_reads outs item q y rows reads checks answers sorted = answered q y 2 0 [] _ rows reads checks (inl refl) (omega arith, refl) (omega arith, omega arith) answers sorted refl refl
 
@@ -195,13 +219,22 @@ module _ {K D C Q X Y : Type 0} (J : Judges K D C Q X Y) (catalog : K) where
   -- a: `begin at 2`, `changed 1 at 2`, `rows .. at 2 base 0`, by `begun`, `changed` and `answered`. It ends with its
   -- transaction open, which prints `end rolled back`. (False if the query read the version without the writes.)
   pub own_writes_a : (outs : ℕ → List Outcome) (i j k : Item) (c : C) (x : X) (q : Q) (y : Y) (rows : List Row) → J.reads i Begins → J.reads j (Changes c) → J.reads k (Asks q) → J.resolves catalog c (Fine x) → J.affects catalog (view setup 2 []) [] x (Done eve 1) → J.checks catalog q (Fine y) → J.answers catalog (view setup 2 eve) y rows → IsSorted row_order rows → Runs J (whole limit setup outs 1) 1 2 (closed catalog) (i ∷ j ∷ k ∷ []) (Began 2 ∷ Changed 1 2 ∷ Rows 2 0 (J.columns y) rows ∷ []) (opened catalog 2 eve)
-  own_writes_a outs i j k c x q y rows begins changes asks resolves affects checks answers sorted =
-    (opened catalog 2 [], begun 2 begins refl (omega arith, omega arith, λ _. refl) refl refl,
-    (opened catalog 2 eve, changed c x 2 1 [] _ _ changes resolves refl (omega arith, refl) affects refl refl,
-    (opened catalog 2 eve, answered q y 2 0 eve _ rows asks checks (inl refl) (omega arith, refl) (omega arith, omega arith) answers sorted refl refl,
-    refl)))
+  own_writes_a outs i j k c x q y rows begins changes asks resolves affects checks answers sorted = (
+    opened catalog 2 [],
+    begun 2 begins refl (omega arith, omega arith, λ _. refl) refl refl,
+    (
+      opened catalog 2 eve,
+      changed c x 2 1 [] _ _ changes resolves refl (omega arith, refl) affects refl refl,
+      (
+        opened catalog 2 eve,
+        answered q y 2 0 eve _ rows asks checks (inl refl) (omega arith, refl) (omega arith, omega arith) answers sorted refl refl,
+        refl,
+      ),
+    ),
+  )
 
-  -- b: `1 rows .. at 2 base 0`, by `answered` at a start of its own, without writes
+  -- b: `1 rows .. at 2 base 0`, by `answered` at a start of its own, without writes. (False if a statement outside a
+  -- transaction could see the open transaction of another section.)
   pub own_writes_b : (outs : ℕ → List Outcome) (item : Item) (q : Q) (y : Y) (rows : List Row) → J.reads item (Asks q) → J.checks catalog q (Fine y) → J.answers catalog (view setup 2 []) y rows → IsSorted row_order rows → Judged J (whole limit setup outs 2) 2 2 (closed catalog) item (Rows 2 0 (J.columns y) rows) (closed catalog)
   own_writes_b outs item q y rows reads checks answers sorted = answered q y 2 0 [] _ rows reads checks (inr (refl, (omega arith, omega arith, λ _. refl), refl)) (omega arith, refl) (omega arith, omega arith) answers sorted refl refl
 
@@ -228,23 +261,36 @@ after_no_third m = let e = m.2 in omega arith
 pub after_starts : (k : ℕ) → (whole limit after_log after_outs 2).starts (max 2 (number 2 (After (codes "a") 2 4))) k → k ≡ 4
 after_starts k s = let e = s.0 in let f = s.1 in omega arith
 
+-- at that version all six rows of KNOWS are edges. (False if a version left its last commit out.)
 pub after_edges : length (edges shapes social (after after_log 4)) ≡ 6
 after_edges = refl
 
 module _ {K D C Q X Y : Type 0} (J : Judges K D C Q X Y) (catalog : K) (tables : J.tables catalog ≡ names) where
-  -- a: `1 changed 1 from 2 at 3`, `2 changed 1 from 3 at 4`, by `changed_alone` and `logged`
+  -- a: `1 changed 1 from 2 at 3`, `2 changed 1 from 3 at 4`, by `changed_alone` and `logged`. (False if a start fixed the
+  -- length of the whole log, or if the second had to start where the first did.)
   pub after_a : (i j : Item) (c d : C) (x y : X) → J.reads i (Changes c) → J.reads j (Changes d) → J.resolves catalog c (Fine x) → J.resolves catalog d (Fine y) → J.affects catalog (view after_log 2 []) [] x (Done (person 1 (codes "A") ∷ []) 1) → J.affects catalog (view after_log 3 []) [] y (Done eve 1) → Runs J (whole limit after_log after_outs 1) 1 2 (closed catalog) (i ∷ j ∷ []) (after_outs 1) (closed catalog)
-  after_a i j c d x y first second fine fine' one two =
-    (closed catalog, changed_alone c x 2 1 _ _ first fine refl (omega arith, omega arith, λ _. refl) (omega arith, refl) one (omega arith) (logged 3 (commit 1 2 (person 1 (codes "A") ∷ [])) (setup, commit 1 3 eve ∷ [], refl, refl) (record { session = refl; from = refl; writes = refl }) refl) refl,
-    (closed catalog, changed_alone d y 3 1 _ _ second fine' refl (omega arith, omega arith, λ _. refl) (omega arith, refl) two (omega arith) (logged 4 (commit 1 3 eve) (setup ++ commit 1 2 (person 1 (codes "A") ∷ []) ∷ [], [], refl, refl) (record { session = refl; from = refl; writes = refl }) refl) refl,
-    refl))
+  after_a i j c d x y first second fine fine' one two = (
+    closed catalog,
+    changed_alone c x 2 1 _ _ first fine refl (omega arith, omega arith, λ _. refl) (omega arith, refl) one (omega arith) (logged 3 (commit 1 2 (person 1 (codes "A") ∷ [])) (setup, commit 1 3 eve ∷ [], refl, refl) (record { session = refl; from = refl; writes = refl }) refl) refl,
+    (
+      closed catalog,
+      changed_alone d y 3 1 _ _ second fine' refl (omega arith, omega arith, λ _. refl) (omega arith, refl) two (omega arith) (logged 4 (commit 1 3 eve) (setup ++ commit 1 2 (person 1 (codes "A") ∷ []) ∷ [], [], refl, refl) (record { session = refl; from = refl; writes = refl }) refl) refl,
+      refl,
+    ),
+  )
 
-  -- b: `1 after a 2 at 4`, `2 rows .. at 4 base 0`, by `waited` and `answered`
+  -- b: `1 after a 2 at 4`, `2 rows .. at 4 base 0`, by `waited` and `answered`. (False if AFTER printed another
+  -- length than the one at which it was met, or if a later start might not be there.)
   pub after_b : (i j : Item) (q : Q) (y : Y) (rows : List Row) → J.reads i (Waits (codes "a") 1 2) → J.reads j (Asks q) → J.checks catalog q (Fine y) → J.answers catalog (view after_log 4 []) y rows → IsSorted row_order rows → Runs J (whole limit after_log after_outs 2) 2 2 (closed catalog) (i ∷ j ∷ []) (After (codes "a") 2 4 ∷ Rows 4 0 (J.columns y) rows ∷ []) (closed catalog)
-  after_b i j q y rows waits asks checks answers sorted =
-    (closed catalog, waited (codes "a") 1 2 4 waits after_met refl refl,
-    (closed catalog, answered q y 4 0 [] _ rows asks checks (inr (refl, (omega arith, omega arith, λ _. refl), refl)) (omega arith, refl) (omega arith, omega arith) answers sorted refl refl,
-    refl))
+  after_b i j q y rows waits asks checks answers sorted = (
+    closed catalog,
+    waited (codes "a") 1 2 4 waits after_met refl refl,
+    (
+      closed catalog,
+      answered q y 4 0 [] _ rows asks checks (inr (refl, (omega arith, omega arith, λ _. refl), refl)) (omega arith, refl) (omega arith, omega arith) answers sorted refl refl,
+      refl,
+    ),
+  )
 
 -- PINNED BASE: r begins over version 2; w commits 300 times, and the commit that finds 256 over base 0 folds first.
 
@@ -274,15 +320,16 @@ module _ (log : List Commit) (outs : ℕ → List Outcome) (n : ℕ) where
   pinned_base_starts l k s = let e = s.0 in let f = s.1 in omega arith
 
 module _ {K D C Q X Y : Type 0} (J : Judges K D C Q X Y) (catalog : K) where
-  -- r: `2 rows .. at 2 base 0`, by `answered` in its transaction, however long the log is by then
+  -- r: `2 rows .. at 2 base 0`, by `answered` in its transaction, however long the log is by then. (False if a base had to be
+  -- near the log's end.)
   pub pinned_base_r : (log : List Commit) (outs : ℕ → List Outcome) (item : Item) (q : Q) (y : Y) (rows : List Row) → 2 ≤ length log → J.reads item (Asks q) → J.checks catalog q (Fine y) → J.answers catalog (view log 2 []) y rows → IsSorted row_order rows → Judged J (whole limit log outs 1) 1 2 (opened catalog 2 []) item (Rows 2 0 (J.columns y) rows) (opened catalog 2 [])
   pinned_base_r log outs item q y rows long reads checks answers sorted = answered q y 2 0 [] _ rows reads checks (inl refl) (long, refl) (omega arith, omega arith) answers sorted refl refl
 
-  -- w: `301 rows .. at 302 base 256`, by `answered` at a start of its own
+  -- w: `301 rows .. at 302 base 256`, by `answered` at a start of its own. (False if a base had to be the version itself.)
   pub pinned_base_w : (log : List Commit) (outs : ℕ → List Outcome) (item : Item) (q : Q) (y : Y) (rows : List Row) → length log ≡ 302 → J.reads item (Asks q) → J.checks catalog q (Fine y) → J.answers catalog (view log 302 []) y rows → IsSorted row_order rows → Judged J (whole limit log outs 2) 2 302 (closed catalog) item (Rows 302 256 (J.columns y) rows) (closed catalog)
   pinned_base_w log outs item q y rows long reads checks answers sorted = answered q y 302 256 [] _ rows reads checks (inr (refl, (omega arith, omega arith, λ _. refl), refl)) (omega arith, refl) (omega arith, omega arith) answers sorted refl refl
 
--- w's 255th change is commit 257, and the line says so
+-- w's 255th change is commit 257, and the line and the number of the commit say so. (False if the parts were exchanged.)
 pub pinned_base_line : outcome_text (ChangedAlone 1 256 257) ≡ codes "changed 1 from 256 at 257\n"
 pinned_base_line =
     let one : decimal 1 ≡ codes "1" = decimal-digits_of 1 (omega arith) (omega arith) in
