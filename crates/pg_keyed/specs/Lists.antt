@@ -1,6 +1,6 @@
 -- Words on lists, and their small laws: what holds of each item, which items are among a list, and lists without doubles.
 use Rattle.std.specs.Prelude.{◌≡◌, ◌⊎◌, List, [], ◌∷◌, ◌++◌, Bool, true, false, cond, map}
-use Rattle.std.proofs.Common.{inl, inr, refl, ap, sym, subst, ◌∙◌}
+use Rattle.std.proofs.Common.{ℕ, zero, suc, take, inl, inr, refl, ap, sym, subst, ◌∙◌}
 use Rattle.std.specs.declared.option.Option.{Option}
 use Rattle.std.specs.declared.option.Option.TheVariants.{Some, None}
 use Rattle.std.specs.List.{filter, filter_map, cons_option}
@@ -45,6 +45,12 @@ each_kept t (x ∷ xs) = go (t x) refl (each_kept t xs)
     go : (b : Bool) → t x ≡ b → Each (λ y. t y ≡ true) (filter t xs) → Each (λ y. t y ≡ true) (cond b (x ∷ filter t xs) (filter t xs))
     go true e r = (e, r)
     go false e r = r
+
+pub each_take : {X : Type 0} (P : X → Type 0) (n : ℕ) (xs : List X) → Each P xs → Each P (take n xs)
+each_take P zero [] h = tt
+each_take P zero (x ∷ xs) h = tt
+each_take P (suc n) [] h = tt
+each_take P (suc n) (x ∷ xs) h = (h.0, each_take P n xs h.1)
 
 pub each_cons : {X : Type 0} (P : X → Type 0) (r : Option X) (xs : List X) → ((x : X) → r ≡ Some x → P x) → Each P xs → Each P (cons_option r xs)
 each_cons P None xs f h = h
@@ -132,3 +138,8 @@ from_given {W} {X} f x (v ∷ ws) m = go (f v) refl (from_given f x ws) m
 pub distinct_filter : {X : Type 0} (t : X → Bool) (xs : List X) → Distinct xs → Distinct (filter t xs)
 distinct_filter t [] d = tt
 distinct_filter t (x ∷ xs) d = elim (t x) as (λ b. Distinct (cond b (x ∷ filter t xs) (filter t xs))) [ true ↦ ((λ m. d.0 (from_filter t x xs m).0), distinct_filter t xs d.1) | false ↦ distinct_filter t xs d.1 ]
+
+-- the images of items that have distinct images further on
+pub distinct_map : {X Y Z : Type 0} (f : X → Y) (g : Y → Z) (xs : List X) → Distinct (map (λ x. g (f x)) xs) → Distinct (map f xs)
+distinct_map f g [] d = tt
+distinct_map f g (x ∷ xs) d = ((λ m. let r = from_map f (f x) xs m in d.0 (subst (λ z. Among z (map (λ y. g (f y)) xs)) (sym (ap g r.2)) (among_map (λ y. g (f y)) r.0 xs r.1))), distinct_map f g xs d.1)

@@ -109,8 +109,12 @@ module _ {X W K : Type 0} (key : X → K) (named : W → K) (row : W → Option 
   put_nothing [] = refl
   put_nothing (x ∷ xs) = ap (λ ys. x ∷ ys) (put_nothing xs)
 
+  -- in order whatever the changes are
+  pub put_rises : (xs : List X) (ws : List W) → Ascends key cmp xs → Ascends key cmp (P xs ws)
+  put_rises xs ws a = add_all_ascends key cmp o (filter (λ x. not (is_named named cmp (key x) ws)) xs) (filter_map row ws) (filter_ascends key cmp o (λ x. not (is_named named cmp (key x) ws)) xs a)
+
   pub put_ascends : (xs : List X) (ws : List W) → Fits key named row cmp ws → Ascends key cmp xs → Ascends named cmp ws → Ascends key cmp (P xs ws)
-  put_ascends xs ws f a b = add_all_ascends key cmp o (filter (λ x. not (is_named named cmp (key x) ws)) xs) (filter_map row ws) (filter_ascends key cmp o (λ x. not (is_named named cmp (key x) ws)) xs a)
+  put_ascends xs ws f a b = put_rises xs ws a
 
   -- a key is named where there is a change of it
   pub named_is : (k : K) (ws : List W) → is_named named cmp k ws ≡ is_some (N k ws)

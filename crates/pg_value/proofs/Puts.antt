@@ -1,16 +1,16 @@
 -- What a put does to a list of writes, by what the search found.
-use Rattle.std.proofs.Common.{◌≡◌, ℕ, ◌<◌, ◌≤◌, List, [], ◌∷◌, length, refl, ap, sym, subst, ◌∙◌, inl, inr, true, false, arith}
-use Rattle.std.specs.Prelude.{slice_get, slice_set, is_some, Result, Ok, Err}
+use Rattle.std.proofs.Common.{◌≡◌, ℕ, ◌<◌, List, [], ◌∷◌, length, refl, ap, sym, subst, ◌∙◌, inl, inr, true}
+use Rattle.std.specs.Prelude.{slice_get, slice_set, is_some, Ok, Err}
 use Rattle.std.specs.declared.option.Option.{Option}
 use Rattle.std.specs.declared.option.Option.TheVariants.{Some, None}
 use Rattle.std.specs.List.{insert}
 use Rattle.pg_keyed.specs.Puts.{merge_ascends}
 use Rattle.pg_keyed.specs.Searches.{sought_replaces, sought_adds, some_within}
 use Rattle.pg_value.specs.declared.write.Write.{Write}
-use Rattle.pg_value.specs.declared.write.PutFault.TheVariants.{Full, Memory}
+use Rattle.pg_value.specs.declared.write.PutFault.TheVariants.{Memory}
 use Rattle.pg_value.specs.Order.{Place, place_cmp}
 use Rattle.pg_value.specs.Orders.{places}
-use Rattle.pg_value.specs.Writes.{named, IsInOrder, Limited, Sought, Put, merge, has, write_at}
+use Rattle.pg_value.specs.Writes.{named, IsInOrder, Limited, Sought, Put, merge, has}
 
 one_in_order : (xs : List Write) (w : Write) → IsInOrder xs → IsInOrder (merge xs (w ∷ []))
 one_in_order xs w a = merge_ascends named place_cmp places xs (w ∷ []) a (tt, tt)

@@ -1,6 +1,6 @@
 -- The graph that tables hold (ISO/IEC 9075-16:2023): its vertices are the rows of its vertex tables, and its edges
 -- those rows of its edge tables whose end columns hold no NULL and name vertices. Other rows of an edge table are no edges.
-use Rattle.std.specs.Prelude.{ℕ, ◌≡◌, ◌==◌, Bool, true, false, cond, ◌&&◌, not, List, [], ◌∷◌, map, slice_get, slice_index_or}
+use Rattle.std.specs.Prelude.{ℕ, Bool, cond, ◌&&◌, not, List, [], map, slice_get, slice_index_or}
 use Rattle.std.specs.declared.option.Option.{Option}
 use Rattle.std.specs.declared.option.Option.TheVariants.{Some, None}
 use Rattle.std.specs.Option.{unwrap_or, option_map}
@@ -11,7 +11,6 @@ use Rattle.pg_value.specs.declared.value.Value.TheVariants.{Null}
 use Rattle.pg_value.specs.declared.row.Row.{Row}
 use Rattle.pg_value.specs.declared.shape.ElemId.{ElemId}
 use Rattle.pg_value.specs.declared.shape.TableNo.{TableNo}
-use Rattle.pg_value.specs.declared.shape.EdgeNo.{EdgeNo}
 use Rattle.pg_value.specs.declared.shape.EdgeShape.{EdgeShape}
 use Rattle.pg_value.specs.declared.shape.Shapes.{Shapes}
 use Rattle.pg_value.specs.declared.shape.GraphShape.{GraphShape}

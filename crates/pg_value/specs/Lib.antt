@@ -6,3 +6,4 @@ pub mod Tables
 pub mod Log
 pub mod Graph
 pub mod Writes
+pub mod TablesLaws

@@ -1,5 +1,5 @@
 -- The order of values, of rows and of the places of writes is total, and what compares equal is equal.
-use Rattle.std.proofs.Common.{◌≡◌, ℕ, ℤ, Bool, true, false, List, refl, ap, ◌∙◌}
+use Rattle.std.proofs.Common.{◌≡◌, Bool, true, false, refl, ap}
 use Rattle.std.specs.declared.cmp.Ordering.{Ordering}
 use Rattle.std.specs.declared.cmp.Ordering.TheVariants.{Less, Equal, Greater}
 use Rattle.std.specs.Cmp.{IsTotalOrder, IsEquivalence, IsPartialEquivalence, IsPartialOrder, nat_cmp_total, int_cmp_total, bool_cmp_total, partial_equiv_from_equiv, eq_by_cmp_equiv, po}
@@ -7,7 +7,7 @@ use Rattle.std.specs.Cmp.Lexicographic.{lists_total, slice_cmp}
 use Rattle.std.specs.FinMap.{slice_cmp-IsAntisymmetric}
 use Rattle.std.proofs.lemmas.Cmp.{on_total, then_total}
 use Rattle.std.proofs.lemmas.Map.Lookups.{exact_signed, exact_unsigned, exact_bytes}
-use Rattle.std.specs.Ordering.{ordering_then, nat_cmp, int_cmp, bool_cmp, on, then_cmp, eq_by_cmp, as_partial_cmp}
+use Rattle.std.specs.Ordering.{ordering_then, nat_cmp, int_cmp, bool_cmp, on, eq_by_cmp, as_partial_cmp}
 use Rattle.pg_keyed.specs.Orders.{Exact}
 use Rattle.pg_value.specs.declared.value.Value.{Value}
 use Rattle.pg_value.specs.declared.value.Value.TheVariants.{Null, Int, Text, Bool as BoolV}

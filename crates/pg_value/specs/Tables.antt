@@ -1,7 +1,7 @@
 -- The tables of a version: the rows that they hold, each beside its key, and what fits their shapes.
-use Rattle.std.specs.Prelude.{ℕ, ℤ, pos, negsuc, ◌≡◌, ◌≤◌, ◌≤ℤ◌, ◌==◌, Bool, true, false, List, [], ◌∷◌, map, slice_get, slice_index_or, length, IfSome}
+use Rattle.std.specs.Prelude.{ℕ, pos, negsuc, ◌≡◌, ◌≤◌, ◌≤ℤ◌, ◌==◌, false, List, map, slice_get, slice_index_or, length, IfSome}
 use Rattle.std.specs.declared.option.Option.{Option}
-use Rattle.std.specs.declared.option.Option.TheVariants.{Some, None}
+use Rattle.std.specs.declared.option.Option.TheVariants.{Some}
 use Rattle.std.specs.List.{filter, AllZip}
 use Rattle.pg_keyed.specs.Keyed as keyed
 use Rattle.pg_value.specs.declared.value.Kind.{Kind}

@@ -1,6 +1,7 @@
 //! Values, keys, rows, writes and commits, which contracts see as plain data, with their order and their printed form.
 #![tactic(auto)]
 
+mod comparison;
 mod list;
 mod row;
 mod shape;
@@ -9,6 +10,7 @@ mod text;
 mod value;
 mod write;
 
+pub use comparison::compare;
 pub use list::List;
 pub use row::{Key, Row, copy_key, copy_row, order_keys, order_rows};
 pub use shape::{

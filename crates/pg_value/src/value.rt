@@ -88,9 +88,10 @@ pub fn copy_value(alloc: Global, value: &Value) -> Result<Value, AllocError>
 }
 
 /// Appends the printed form: `NULL`, a number in decimal digits with `-` where it is negative, `TRUE`, `FALSE`, or a text
-/// between `'` with each `'` inside it twice. After want of memory `out` begins with what it was.
+/// between `'` with each `'` inside it twice. After want of memory `out` is as before.
 pub fn print_value(alloc: Global, value: &Value, out: &mut Text) -> Result<(), AllocError>
-    ensures { OnOk result (out.new ≡ out.old ++ print_of value.now) }
+    ensures ok { OnOk result (out.new ≡ out.old ++ print_of value.now) }
+    ensures err { OnErr result (out.new ≡ out.old) }
 {
     match value {
         Value::Null => out.push_str("NULL"),
