@@ -91,7 +91,7 @@ column_fault_word NullNotAllowed = codes "NullNotAllowed"
 column_fault_word Range = codes "Range"
 column_fault_word TooLong = codes "TooLong"
 
--- ` at K`, ` from K`, ` row R`
+-- ` at K`, ` from K`, ` row R`, ` held H`
 abbrev pub at_text : ℕ → List ℕ
 at_text at = codes " at " ++ decimal at
 
@@ -100,6 +100,9 @@ from_text from = codes " from " ++ decimal from
 
 abbrev pub row_text : ℕ → List ℕ
 row_text row = codes " row " ++ decimal row
+
+abbrev pub held_text : ℕ → List ℕ
+held_text held = codes " held " ++ decimal held
 
 -- a row of an answer
 abbrev pub row_line : Row → List ℕ
@@ -131,7 +134,7 @@ outcome_text (Duplicate row at) = line (codes "refused Duplicate" ++ (row_text r
 outcome_text (TooManyWrites row at) = line (codes "refused TooManyWrites" ++ (row_text row ++ at_text at))
 outcome_text (AtColumn kind row column at) = line (codes "refused " ++ (column_fault_word kind ++ (row_text row ++ (codes " column " ++ (name_text column ++ at_text at)))))
 outcome_text (Conflict table key from at) = line (codes "refused Conflict " ++ (place_text table key.values ++ (from_text from ++ at_text at)))
-outcome_text (LogFull from held) = line (codes "refused LogFull" ++ (from_text from ++ (codes " held " ++ decimal held)))
+outcome_text (LogFull from held) = line (codes "refused LogFull" ++ (from_text from ++ held_text held))
 
 abbrev pub numbered_text : ℕ → Outcome → List ℕ
 numbered_text n o = decimal n ++ (codes " " ++ outcome_text o)

@@ -5,7 +5,7 @@ ghost use Rattle.pg_script.specs.Text.{at_text, row_text, counted_line, header_l
 ghost use Rattle.pg_script.specs.declared.outcome.Outcome.TheVariants.{Defined, Began, Changed, ChangedAlone, Committed, CommitEmpty, RolledBack, Rows, After, AtByte, Duplicate, TooManyWrites, AtColumn, Conflict, LogFull};
 
 use crate::printing::words::{
-    push_at, push_from, push_name, push_names, push_place, push_row_number, push_values,
+    push_at, push_from, push_held, push_name, push_names, push_place, push_row_number, push_values,
 };
 use crate::{ColumnFault, FaultKind, Outcome};
 use pg_value::{Key, List, Row, Text};
@@ -276,8 +276,7 @@ fn push_full(alloc: Global, out: &mut Text, from: u64, held: u64) -> Result<(), 
 {
     out.push_str("refused LogFull")?;
     push_from(alloc, out, from)?;
-    out.push_str(" held ")?;
-    out.push_number(alloc, held)?;
+    push_held(alloc, out, held)?;
     out.push_str("\n")
 }
 

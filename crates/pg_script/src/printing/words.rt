@@ -1,7 +1,7 @@
 ghost use Rattle.std.specs.Prelude.{◌≡◌, ◌++◌, OnOk, IsTrue, ◌↔◌, true, map};
 ghost use Rattle.std.specs.List.{list_all};
 ghost use Rattle.pg_script.specs.Text as spec;
-ghost use Rattle.pg_script.specs.Text.{listed, name_text, place_text, tuple_text, values_text, from_text, at_text, row_text};
+ghost use Rattle.pg_script.specs.Text.{listed, name_text, place_text, tuple_text, values_text, from_text, at_text, held_text, row_text};
 
 use pg_value::{Key, Text, Value, print_value};
 use std::alloc::{AllocError, Global};
@@ -116,4 +116,12 @@ pub fn push_row_number(alloc: Global, out: &mut Text, row: u64) -> Result<(), Al
 {
     out.push_str(" row ")?;
     out.push_number(alloc, row)
+}
+
+/// Appends ` held H`.
+pub fn push_held(alloc: Global, out: &mut Text, held: u64) -> Result<(), AllocError>
+    ensures { OnOk result (out.new ≡ out.old ++ held_text held) }
+{
+    out.push_str(" held ")?;
+    out.push_number(alloc, held)
 }
