@@ -1,8 +1,8 @@
-ghost use Rattle.std.specs.Prelude.{◌≡◌, ◌++◌, ◌+◌, ◌<◌, ◌^◌, length, OnOk};
+ghost use Rattle.std.specs.Prelude.{◌≡◌, ◌++◌, OnOk};
 ghost use Rattle.std.specs.List.{flat_map};
 ghost use Rattle.pg_script.specs.Text as spec;
 ghost use Rattle.pg_script.specs.Text.{at_text, row_text, counted_line, header_line, outcome_text, outcomes_text, numbered_text, row_line, line};
-ghost use Rattle.pg_script.specs.declared.outcome.Outcome.TheVariants.{Defined, Began, Changed, ChangedAlone, Committed, CommitEmpty, RolledBack, Rows, After, AtByte, Duplicate, TooManyWrites, AtColumn, Conflict, LogFull};
+ghost use Rattle.pg_script.specs.declared.outcome.Outcome.TheVariants.{Defined, Changed, ChangedAlone, Committed, Rows, After, AtByte, AtColumn, Conflict, LogFull};
 
 use crate::printing::words::{
     push_at, push_from, push_held, push_name, push_names, push_place, push_row_number, push_values,

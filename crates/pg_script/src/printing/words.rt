@@ -1,4 +1,4 @@
-ghost use Rattle.std.specs.Prelude.{◌≡◌, ◌++◌, OnOk, IsTrue, ◌↔◌, true, map};
+ghost use Rattle.std.specs.Prelude.{◌≡◌, ◌++◌, OnOk, map};
 ghost use Rattle.std.specs.List.{list_all};
 ghost use Rattle.pg_script.specs.Text as spec;
 ghost use Rattle.pg_script.specs.Text.{listed, name_text, place_text, tuple_text, values_text, from_text, at_text, held_text, row_text};
