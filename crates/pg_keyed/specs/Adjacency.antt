@@ -45,5 +45,5 @@ module _ {X V K : Type 0} (place : X → V) (key : X → K) (vcmp : V → V → 
   at_end_is rows grouped v a g f h =
       let t = λ (x : X). is_eq (vcmp v (place x)) in
       same_members key cmp o (at_end v grouped) (at_end v rows) (grouped_ascends v grouped g) (filter_ascends key cmp o t rows a)
-        (λ x m. let r = from_filter t x grouped m in among_filter t x rows r.1 (h x r.0))
-        (λ x m. let r = from_filter t x rows m in among_filter t x grouped r.1 (f x r.0))
+      (λ x m. let r = from_filter t x grouped m in among_filter t x rows r.1 (h x r.0))
+      (λ x m. let r = from_filter t x rows m in among_filter t x grouped r.1 (f x r.0))

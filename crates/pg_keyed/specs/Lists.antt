@@ -100,6 +100,7 @@ among_filter t x (y ∷ ys) h a = go (t y) refl (λ b. among_filter t x ys h b) 
   where
     no_way : true ≡ false → ⊥
     no_way e = cc
+
     go : (b : Bool) → t y ≡ b → (Among x ys → Among x (filter t ys)) → (x ≡ y) ⊎ Among x ys → Among x (cond b (y ∷ filter t ys) (filter t ys))
     go true e again (inl s) = inl s
     go true e again (inr m) = inr (again m)

@@ -56,19 +56,22 @@ module _ {X K : Type 0} (key : X → K) (cmp : K → K → Ordering) (o : Exact 
       let before = λ (y : X). is_lt (cmp (key y) (key x)) in
       let after = λ (y : X). is_gt (cmp (key y) (key x)) in
       join_ascends key cmp o (filter before xs) x (filter after xs) (filter_ascends key cmp o before xs a)
-        (each_map (λ y. before y ≡ true) (λ y. cmp (key y) (key x) ≡ Less) (λ y e. less_is _ e) (filter before xs) (each_kept before xs))
-        (each_map (λ y. after y ≡ true) (λ y. cmp (key x) (key y) ≡ Less) (λ y e. turn o (key y) (key x) Greater (greater_is _ e)) (filter after xs) (each_kept after xs))
-        (filter_ascends key cmp o after xs a)
+      (each_map (λ y. before y ≡ true) (λ y. cmp (key y) (key x) ≡ Less) (λ y e. less_is _ e) (filter before xs) (each_kept before xs))
+      (each_map (λ y. after y ≡ true) (λ y. cmp (key x) (key y) ≡ Less) (λ y e. turn o (key y) (key x) Greater (greater_is _ e)) (filter after xs) (each_kept after xs))
+      (filter_ascends key cmp o after xs a)
 
   pub add_reads : (k : K) (x : X) (xs : List X) → get key cmp k (add key cmp x xs) ≡ cond (is_eq (cmp k (key x))) (Some x) (get key cmp k xs)
   add_reads k x xs = get_append k before (x ∷ after) ∙ ap (λ m. first_of m (get key cmp k (x ∷ after))) (get_filter key cmp o (λ j. is_lt (cmp j (key x))) k xs) ∙ go (cmp k (key x)) refl
     where
       before : List X
       before = filter (λ y. is_lt (cmp (key y) (key x))) xs
+
       after : List X
       after = filter (λ y. is_gt (cmp (key y) (key x))) xs
+
       behind : get key cmp k after ≡ cond (is_gt (cmp k (key x))) (get key cmp k xs) None
       behind = get_filter key cmp o (λ j. is_gt (cmp j (key x))) k xs
+
       go : (r : Ordering) → cmp k (key x) ≡ r → first_of (cond (is_lt r) (get key cmp k xs) None) (cond (is_eq r) (Some x) (get key cmp k after)) ≡ cond (is_eq r) (Some x) (get key cmp k xs)
       go Less e = ap (first_of (get key cmp k xs)) (behind ∙ ap (λ r. cond (is_gt r) (get key cmp k xs) None) e) ∙ first_none (get key cmp k xs)
       go Equal e = refl
@@ -132,23 +135,28 @@ module _ {X W K : Type 0} (key : X → K) (named : W → K) (row : W → Option 
     where
       rest : List X
       rest = filter_map row ws
+
       missed : k ≡ named w → N k ws ≡ None
       missed e = ap (λ j. N j ws) e ∙ above_none named cmp o (named w) ws b.0
+
       here : k ≡ named w → N k (w ∷ ws) ≡ Some w
       here e = ap (λ j. N j (w ∷ ws)) e ∙ get_here named cmp o w ws
+
       go : (r : Option X) → row w ≡ r → ((x : X) → row w ≡ Some x → key x ≡ named w) → ((ys : List X) → G k (add_all key cmp ys rest) ≡ first_of (over row (N k ws) None) (G k ys))
           → G k (add_all key cmp xs (cons_option r rest)) ≡ first_of (over row (N k (w ∷ ws)) None) (G k xs)
       go None e g again = elim (here_or named cmp o k w) [
-          inl q ↦ again xs ∙ ap (λ m. first_of (over row m None) (G k xs)) (missed q) ∙ sym (ap (λ m. first_of m (G k xs)) (ap (λ m. over row m None) (here q) ∙ e))
-        | inr n ↦ again xs ∙ ap (λ m. first_of (over row m None) (G k xs)) (sym (get_there named cmp o k w ws n)) ]
+        | inl q ↦ again xs ∙ ap (λ m. first_of (over row m None) (G k xs)) (missed q) ∙ sym (ap (λ m. first_of m (G k xs)) (ap (λ m. over row m None) (here q) ∙ e))
+        | inr n ↦ again xs ∙ ap (λ m. first_of (over row m None) (G k xs)) (sym (get_there named cmp o k w ws n))
+      ]
       go (Some x) e g again =
           let at : is_eq (cmp k (key x)) ≡ is_eq (cmp k (named w)) = ap (λ j. is_eq (cmp k j)) (g x e) in
           again (add key cmp x xs) ∙ ap (first_of (over row (N k ws) None)) (add_reads key cmp o k x xs) ∙ elim (here_or named cmp o k w) [
-              inl q ↦ ap (λ m. first_of (over row m None) (cond (is_eq (cmp k (key x))) (Some x) (G k xs))) (missed q)
+            | inl q ↦ ap (λ m. first_of (over row m None) (cond (is_eq (cmp k (key x))) (Some x) (G k xs))) (missed q)
                 ∙ ap (λ c. cond c (Some x) (G k xs)) (at ∙ ap is_eq (subst (λ j. cmp k j ≡ Equal) q (same o k)))
                 ∙ sym (ap (λ m. first_of m (G k xs)) (ap (λ m. over row m None) (here q) ∙ e))
             | inr n ↦ ap (λ c. first_of (over row (N k ws) None) (cond c (Some x) (G k xs))) (at ∙ n)
-                ∙ ap (λ m. first_of (over row m None) (G k xs)) (sym (get_there named cmp o k w ws n)) ]
+                ∙ ap (λ m. first_of (over row m None) (G k xs)) (sym (get_there named cmp o k w ws n))
+          ]
 
   -- a key reads its change's item, or else what stood there
   pub put_reads : (k : K) (xs : List X) (ws : List W) → Fits key named row cmp ws → Ascends key cmp xs → Ascends named cmp ws → G k (P xs ws) ≡ over row (N k ws) (G k xs)
@@ -193,10 +201,10 @@ module _ {X W K : Type 0} (key : X → K) (named : W → K) (row : W → Option 
       let ax = filter_ascends key cmp o (λ x. r (key x)) xs a in
       let bw = filter_ascends named cmp o (λ w. r (named w)) ws b in
       alike key cmp o _ _ (filter_ascends key cmp o (λ x. r (key x)) (P xs ws) (put_ascends xs ws f a b)) (put_ascends _ _ fw ax bw)
-        (λ k. get_filter key cmp o r k (P xs ws) ∙ ap (λ m. cond (r k) m None) (put_reads k xs ws f a b)
-          ∙ both (r k) (N k ws) (G k xs)
-          ∙ sym (put_reads k (filter (λ x. r (key x)) xs) (filter (λ w. r (named w)) ws) fw ax bw
-              ∙ (λ i. over row (get_filter named cmp o r k ws i) (get_filter key cmp o r k xs i))))
+      (λ k. get_filter key cmp o r k (P xs ws) ∙ ap (λ m. cond (r k) m None) (put_reads k xs ws f a b)
+      ∙ both (r k) (N k ws) (G k xs)
+      ∙ sym (put_reads k (filter (λ x. r (key x)) xs) (filter (λ w. r (named w)) ws) fw ax bw
+      ∙ (λ i. over row (get_filter named cmp o r k ws i) (get_filter key cmp o r k xs i))))
     where
       both : (c : Bool) (m : Option W) (q : Option X) → cond c (over row m q) None ≡ over row (cond c m None) (cond c q None)
       both true m q = refl
@@ -234,10 +242,10 @@ module _ {X W K : Type 0} (key : X → K) (named : W → K) (row : W → Option 
       let fm = merge_each named cmp o (λ w. (x : X) → row w ≡ Some x → key x ≡ named w) a b f g in
       let first = put_ascends key named row cmp o xs a f s h in
       alike key cmp o _ _ (put_ascends key named row cmp o _ b g first k) (put_ascends key named row cmp o xs _ fm s m)
-        (λ j. put_reads key named row cmp o j _ b g first k
-          ∙ ap (over row (get named cmp j b)) (put_reads key named row cmp o j xs a f s h)
-          ∙ both (get named cmp j b) (get named cmp j a) (get key cmp j xs)
-          ∙ sym (put_reads key named row cmp o j xs _ fm s m ∙ ap (λ n. over row n (get key cmp j xs)) (merge_reads named cmp o j a b h k)))
+      (λ j. put_reads key named row cmp o j _ b g first k
+      ∙ ap (over row (get named cmp j b)) (put_reads key named row cmp o j xs a f s h)
+      ∙ both (get named cmp j b) (get named cmp j a) (get key cmp j xs)
+      ∙ sym (put_reads key named row cmp o j xs _ fm s m ∙ ap (λ n. over row n (get key cmp j xs)) (merge_reads named cmp o j a b h k)))
     where
       both : (p q : Option W) (r : Option X) → over row p (over row q r) ≡ over row (over (λ (w : W). Some w) p q) r
       both (Some w) q r = refl
@@ -292,8 +300,9 @@ module _ {X K : Type 0} (key : X → K) (cmp : K → K → Ordering) (o : Exact 
   pub behead_above : (k : K) (xs : List X) → From k xs → Ascends key cmp xs → Above key cmp k (behead key cmp k xs)
   behead_above k [] f a = tt
   behead_above k (x ∷ xs) f a = elim (not_less k x f) [
-      inl l ↦ subst (λ b. Above key cmp k (cond b xs (x ∷ xs))) (sym (ap is_eq l)) (l, above_less key cmp o k (key x) xs l a.0)
-    | inr e ↦ subst (λ b. Above key cmp k (cond b xs (x ∷ xs))) (sym (ap is_eq e)) (subst (λ j. Above key cmp j xs) (sym (o.exact k (key x) e)) a.0) ]
+    | inl l ↦ subst (λ b. Above key cmp k (cond b xs (x ∷ xs))) (sym (ap is_eq l)) (l, above_less key cmp o k (key x) xs l a.0)
+    | inr e ↦ subst (λ b. Above key cmp k (cond b xs (x ∷ xs))) (sym (ap is_eq e)) (subst (λ j. Above key cmp j xs) (sym (o.exact k (key x) e)) a.0)
+  ]
 
   pub behead_ascends : (k : K) (xs : List X) → Ascends key cmp xs → Ascends key cmp (behead key cmp k xs)
   behead_ascends k [] a = tt
@@ -302,14 +311,16 @@ module _ {X K : Type 0} (key : X → K) (cmp : K → K → Ordering) (o : Exact 
   pub behead_reads : (q k : K) (xs : List X) → is_eq (cmp q k) ≡ false → get key cmp q (behead key cmp k xs) ≡ get key cmp q xs
   behead_reads q k [] n = refl
   behead_reads q k (x ∷ xs) n = elim (here_or key cmp o k x) [
-      inl e ↦ ap (λ b. get key cmp q (cond b xs (x ∷ xs))) (ap is_eq (subst (λ j. cmp k j ≡ Equal) e (same o k))) ∙ sym (get_there key cmp o q x xs (subst (λ j. is_eq (cmp q j) ≡ false) e n))
-    | inr m ↦ ap (λ b. get key cmp q (cond b xs (x ∷ xs))) m ]
+    | inl e ↦ ap (λ b. get key cmp q (cond b xs (x ∷ xs))) (ap is_eq (subst (λ j. cmp k j ≡ Equal) e (same o k))) ∙ sym (get_there key cmp o q x xs (subst (λ j. is_eq (cmp q j) ≡ false) e n))
+    | inr m ↦ ap (λ b. get key cmp q (cond b xs (x ∷ xs))) m
+  ]
 
   pub head_reads : (k : K) (xs : List X) → From k xs → Ascends key cmp xs → get key cmp k xs ≡ head_of k xs
   head_reads k [] f a = refl
   head_reads k (x ∷ xs) f a = elim (not_less k x f) [
-      inl l ↦ get_there key cmp o k x xs (ap is_eq l) ∙ above_none key cmp o k xs (above_less key cmp o k (key x) xs l a.0) ∙ sym (ap (λ b. cond b (Some x) None) (ap is_eq l))
-    | inr e ↦ ap (λ b. cond b (Some x) (get key cmp k xs)) (ap is_eq e) ∙ sym (ap (λ b. cond b (Some x) None) (ap is_eq e)) ]
+    | inl l ↦ get_there key cmp o k x xs (ap is_eq l) ∙ above_none key cmp o k xs (above_less key cmp o k (key x) xs l a.0) ∙ sym (ap (λ b. cond b (Some x) None) (ap is_eq l))
+    | inr e ↦ ap (λ b. cond b (Some x) (get key cmp k xs)) (ap is_eq e) ∙ sym (ap (λ b. cond b (Some x) None) (ap is_eq e))
+  ]
 
 module _ {X W K : Type 0} (key : X → K) (named : W → K) (row : W → Option X) (cmp : K → K → Ordering) (o : Exact cmp) where
   abbrev pub AllFrom : K → List (List W) → Type 0
@@ -337,19 +348,25 @@ module _ {X W K : Type 0} (key : X → K) (named : W → K) (row : W → Option 
     where
       all : List X
       all = put_all key named row cmp xs runs
+
       rest : List X
       rest = put_all key named row cmp (behead key cmp k xs) (map (behead named cmp k) runs)
+
       above : Above key cmp k rest
       above = all_above k (behead key cmp k xs) runs (behead_above key cmp o k xs f s) g a
+
       rises : Ascends key cmp rest
       rises = all_ascends key named row cmp o (behead key cmp k xs) (map (behead named cmp k) runs) (behead_ascends key cmp o k xs s) (all_behead k runs a)
+
       elsewhere : (q : K) → is_eq (cmp q k) ≡ false → get key cmp q all ≡ get key cmp q rest
       elsewhere q n =
           all_reads key named row cmp o q xs runs s a
           ∙ (λ i. over_all row (sym (behead_reads key cmp o q k xs n) i) (sym (same_reads q k runs n) i))
           ∙ sym (all_reads key named row cmp o q (behead key cmp k xs) (map (behead named cmp k) runs) (behead_ascends key cmp o k xs s) (all_behead k runs a))
+
       known : (q : K) → (q ≡ k) ⊎ (is_eq (cmp q k) ≡ false)
       known q = here_or (λ (j : K). j) cmp o q k
+
       go : (r : Option X) → get key cmp k all ≡ r → all ≡ cons_option r rest
       go None e = alike key cmp o all rest (all_ascends key named row cmp o xs runs s a) rises
           (λ q. elim (known q) [ inl p ↦ ap (λ j. get key cmp j all) p ∙ e ∙ sym (above_none key cmp o k rest above) ∙ ap (λ j. get key cmp j rest) (sym p) | inr n ↦ elsewhere q n ])
@@ -357,5 +374,6 @@ module _ {X W K : Type 0} (key : X → K) (named : W → K) (row : W → Option 
           let kx = get_key key cmp o k all x e in
           alike key cmp o all (x ∷ rest) (all_ascends key named row cmp o xs runs s a) (subst (λ j. Above key cmp j rest) kx above, rises)
           (λ q. elim (known q) [
-              inl p ↦ ap (λ j. get key cmp j all) p ∙ e ∙ sym (get_here key cmp o x rest) ∙ ap (λ j. get key cmp j (x ∷ rest)) (sym (p ∙ kx))
-            | inr n ↦ elsewhere q n ∙ sym (get_there key cmp o q x rest (subst (λ j. is_eq (cmp q j) ≡ false) kx n)) ])
+            | inl p ↦ ap (λ j. get key cmp j all) p ∙ e ∙ sym (get_here key cmp o x rest) ∙ ap (λ j. get key cmp j (x ∷ rest)) (sym (p ∙ kx))
+            | inr n ↦ elsewhere q n ∙ sym (get_there key cmp o q x rest (subst (λ j. is_eq (cmp q j) ≡ false) kx n))
+          ])

@@ -70,10 +70,12 @@ module _ {X K : Type 0} (key : X → K) (cmp : K → K → Ordering) (o : Exact 
   pub get_at : (k : K) (xs : List X) → Ascends key cmp xs → get key cmp k xs ≡ checked k (slice_get xs (rank key cmp k xs))
   get_at k [] a = refl
   get_at k (y ∷ ys) a = elim (cases (cmp k (key y))) [
-      inl le ↦ elim le [
-          inl h ↦ rw (ap is_eq h, ap is_gt h) (above_none k ys (above_less k (key y) ys h a.0) ∙ sym (ap (λ b. cond b (Some y) None) (ap is_eq h)))
-        | inr h ↦ rw (ap is_eq h, ap is_gt h) (sym (ap (λ b. cond b (Some y) None) (ap is_eq h))) ]
-    | inr h ↦ rw (ap is_eq h, ap is_gt h) (rw add-one (get_at k ys a.1)) ]
+    | inl le ↦ elim le [
+      | inl h ↦ rw (ap is_eq h, ap is_gt h) (above_none k ys (above_less k (key y) ys h a.0) ∙ sym (ap (λ b. cond b (Some y) None) (ap is_eq h)))
+      | inr h ↦ rw (ap is_eq h, ap is_gt h) (sym (ap (λ b. cond b (Some y) None) (ap is_eq h)))
+    ]
+    | inr h ↦ rw (ap is_eq h, ap is_gt h) (rw add-one (get_at k ys a.1))
+  ]
 
   pub get_or_same : (xs : List X) (i : ℕ) (d e : X) → i < length xs → get_or xs i d ≡ get_or xs i e
   get_or_same [] i d e l = absurd (omega arith)

@@ -32,8 +32,9 @@ module _ {X K : Type 0} (key : X → K) (cmp : K → K → Ordering) (o : Exact 
   -- the key is the item's, or the item is passed
   pub here_or : (k : K) (x : X) → (k ≡ key x) ⊎ (is_eq (cmp k (key x)) ≡ false)
   here_or k x = elim (cases (cmp k (key x))) [
-      inl le ↦ elim le [ inl h ↦ inr (ap is_eq h) | inr h ↦ inl (o.exact k (key x) h) ]
-    | inr h ↦ inr (ap is_eq h) ]
+    | inl le ↦ elim le [ inl h ↦ inr (ap is_eq h) | inr h ↦ inl (o.exact k (key x) h) ]
+    | inr h ↦ inr (ap is_eq h)
+  ]
 
   none_there : (x : X) (xs : List X) → Above key cmp (key x) xs → get key cmp (key x) xs ≡ None
   none_there x xs a = above_none key cmp o (key x) xs a
@@ -44,21 +45,25 @@ module _ {X K : Type 0} (key : X → K) (cmp : K → K → Ordering) (o : Exact 
   alike (x ∷ xs) [] a b h = absurd (not_some x (sym (h (key x)) ∙ get_here x xs))
   alike (x ∷ xs) (y ∷ ys) a b h =
       let first : x ≡ y = elim (cases (cmp (key x) (key y))) [
-          inl le ↦ elim le [
-              inl l ↦ absurd (not_some x (sym (get_there (key x) y ys (ap is_eq l) ∙ above_none key cmp o (key x) ys (above_less key cmp o (key x) (key y) ys l b.0)) ∙ sym (h (key x)) ∙ get_here x xs))
-            | inr e ↦ some_is x y (sym (get_here x xs) ∙ h (key x) ∙ ap (λ k. get key cmp k (y ∷ ys)) (o.exact (key x) (key y) e) ∙ get_here y ys) ]
-        | inr g ↦ (let l = turn o (key x) (key y) Greater g in absurd (not_some y (sym (get_there (key y) x xs (ap is_eq l) ∙ above_none key cmp o (key y) xs (above_less key cmp o (key y) (key x) xs l a.0)) ∙ h (key y) ∙ get_here y ys))) ] in
+        | inl le ↦ elim le [
+          | inl l ↦ absurd (not_some x (sym (get_there (key x) y ys (ap is_eq l) ∙ above_none key cmp o (key x) ys (above_less key cmp o (key x) (key y) ys l b.0)) ∙ sym (h (key x)) ∙ get_here x xs))
+          | inr e ↦ some_is x y (sym (get_here x xs) ∙ h (key x) ∙ ap (λ k. get key cmp k (y ∷ ys)) (o.exact (key x) (key y) e) ∙ get_here y ys)
+        ]
+        | inr g ↦ (let l = turn o (key x) (key y) Greater g in absurd (not_some y (sym (get_there (key y) x xs (ap is_eq l) ∙ above_none key cmp o (key y) xs (above_less key cmp o (key y) (key x) xs l a.0)) ∙ h (key y) ∙ get_here y ys)))
+      ] in
       let rest : (k : K) → get key cmp k xs ≡ get key cmp k ys = λ k. elim (here_or k x) [
-          inl e ↦ ap (λ j. get key cmp j xs) e ∙ none_there x xs a.0 ∙ sym (none_there y ys b.0) ∙ ap (λ j. get key cmp j ys) (sym (e ∙ ap key first))
-        | inr n ↦ sym (get_there k x xs n) ∙ h k ∙ get_there k y ys (ap (λ z. is_eq (cmp k (key z))) (sym first) ∙ n) ] in
+        | inl e ↦ ap (λ j. get key cmp j xs) e ∙ none_there x xs a.0 ∙ sym (none_there y ys b.0) ∙ ap (λ j. get key cmp j ys) (sym (e ∙ ap key first))
+        | inr n ↦ sym (get_there k x xs n) ∙ h k ∙ get_there k y ys (ap (λ z. is_eq (cmp k (key z))) (sym first) ∙ n)
+      ] in
       let more : xs ≡ ys = alike xs ys a.1 b.1 rest in
       λ i. first i ∷ more i
 
   pub get_key : (k : K) (xs : List X) (x : X) → get key cmp k xs ≡ Some x → k ≡ key x
   get_key k [] x h = absurd (not_some x h)
   get_key k (y ∷ ys) x h = elim (here_or k y) [
-      inl e ↦ e ∙ ap key (some_is y x (sym (ap (λ j. get key cmp j (y ∷ ys)) e ∙ get_here y ys) ∙ h))
-    | inr n ↦ get_key k ys x (sym (get_there k y ys n) ∙ h) ]
+    | inl e ↦ e ∙ ap key (some_is y x (sym (ap (λ j. get key cmp j (y ∷ ys)) e ∙ get_here y ys) ∙ h))
+    | inr n ↦ get_key k ys x (sym (get_there k y ys n) ∙ h)
+  ]
 
   pub among_get : (x : X) (xs : List X) → Ascends key cmp xs → Among x xs → get key cmp (key x) xs ≡ Some x
   among_get x [] a m = absurd m
@@ -95,8 +100,11 @@ module _ {X K : Type 0} (key : X → K) (cmp : K → K → Ordering) (o : Exact 
   -- no key twice
   pub keys_distinct : (xs : List X) → Ascends key cmp xs → Distinct (map key xs)
   keys_distinct [] a = tt
-  keys_distinct (x ∷ xs) a = ((λ m. let r = from_map key (key x) xs m in
-      less_equal (sym (each_among (λ y. cmp (key x) (key y) ≡ Less) r.0 xs a.0 r.1) ∙ ap (cmp (key x)) (sym r.2) ∙ same o (key x))), keys_distinct xs a.1)
+  keys_distinct (x ∷ xs) a = (
+    (λ m. let r = from_map key (key x) xs m in
+        less_equal (sym (each_among (λ y. cmp (key x) (key y) ≡ Less) r.0 xs a.0 r.1) ∙ ap (cmp (key x)) (sym r.2) ∙ same o (key x))),
+    keys_distinct xs a.1,
+  )
 
   pub items_distinct : (xs : List X) → Ascends key cmp xs → Distinct xs
   items_distinct [] a = tt
@@ -111,6 +119,7 @@ module _ {X K : Type 0} (key : X → K) (cmp : K → K → Ordering) (o : Exact 
     where
       kept : List X
       kept = filter (λ y. r (key y)) xs
+
       go : (b : Bool) → r (key x) ≡ b → get key cmp (key x) (cond b (x ∷ kept) kept) ≡ cond b (get key cmp (key x) (x ∷ xs)) None
       go true q = get_here x kept ∙ sym (get_here x xs)
       go false q = again ∙ ap (λ b. cond b (get key cmp (key x) xs) None) q
@@ -120,6 +129,7 @@ module _ {X K : Type 0} (key : X → K) (cmp : K → K → Ordering) (o : Exact 
     where
       kept : List X
       kept = filter (λ y. r (key y)) xs
+
       go : (b : Bool) → get key cmp k (cond b (x ∷ kept) kept) ≡ cond (r k) (get key cmp k xs) None
       go true = get_there k x kept n ∙ again
       go false = again
@@ -134,5 +144,6 @@ module _ {X K : Type 0} (key : X → K) (cmp : K → K → Ordering) (o : Exact 
   pub get_filter : (r : K → Bool) (k : K) (xs : List X) → get key cmp k (filter (λ x. r (key x)) xs) ≡ cond (r k) (get key cmp k xs) None
   get_filter r k [] = nothing (r k)
   get_filter r k (x ∷ xs) = let again = get_filter r k xs in elim (here_or k x) [
-      inl e ↦ subst (λ j. Filtered r j (x ∷ xs)) (sym e) (filter_here r x xs (subst (λ j. Filtered r j xs) e again))
-    | inr n ↦ filter_there r k x xs n again ]
+    | inl e ↦ subst (λ j. Filtered r j (x ∷ xs)) (sym e) (filter_here r x xs (subst (λ j. Filtered r j xs) e again))
+    | inr n ↦ filter_there r k x xs n again
+  ]

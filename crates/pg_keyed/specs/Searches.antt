@@ -40,8 +40,10 @@ module _ {X K : Type 0} (key : X → K) (cmp : K → K → Ordering) (o : Exact 
     where
       y : X
       y = get_or xs j d
+
       less_y : cmp (key x) (key y) ≡ Less
       less_y = above_at (key x) xs j d a (omega arith)
+
       go : (r : Ordering) → cmp (key x) k ≡ r → ordering_index r ≤ ordering_index (cmp (key y) k)
       go Less e = omega arith
       go Equal e = let g : cmp (key y) k ≡ Greater = turn o k (key y) Less (subst (λ j. cmp j (key y) ≡ Less) (o.exact (key x) k e) less_y) in rw g (omega arith)

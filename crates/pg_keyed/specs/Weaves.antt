@@ -55,9 +55,10 @@ module _ {X W K : Type 0} (key : X → K) (named : W → K) (row : W → Option 
       go : ((vs : List W) → Fits key named row cmp vs → Above named cmp k vs → Above key cmp k (P xs vs)) → (ws : List W) → Fits key named row cmp ws → Above named cmp k ws → Above key cmp k (weave_from key named row cmp x (weave key named row cmp xs) ws)
       go again [] f b = (a.0, again [] tt tt)
       go again (w ∷ ws) f b = elim (cmp (key x) (named w)) as (λ r. Above key cmp k (elim r [ Less ↦ x ∷ P xs (w ∷ ws) | Equal ↦ cons_option (row w) (P xs ws) | Greater ↦ cons_option (row w) (weave_from key named row cmp x (weave key named row cmp xs) ws) ])) [
-          Less ↦ (a.0, again (w ∷ ws) f b)
+        | Less ↦ (a.0, again (w ∷ ws) f b)
         | Equal ↦ cons_above k w (P xs ws) f.0 b.0 (again ws f.1 b.1)
-        | Greater ↦ cons_above k w (weave_from key named row cmp x (weave key named row cmp xs) ws) f.0 b.0 (go again ws f.1 b.1) ]
+        | Greater ↦ cons_above k w (weave_from key named row cmp x (weave key named row cmp xs) ws) f.0 b.0 (go again ws f.1 b.1)
+      ]
 
   -- one step of the walk, by how the two first keys compare
   abbrev step : Ordering → X → List X → W → List W → List X
@@ -82,13 +83,15 @@ module _ {X W K : Type 0} (key : X → K) (named : W → K) (row : W → Option 
       go : ((vs : List W) → Fits key named row cmp vs → Ascends named cmp vs → Ascends key cmp (P xs vs)) → (ws : List W) → Fits key named row cmp ws → Ascends named cmp ws → Ascends key cmp (P (x ∷ xs) ws)
       go again [] f b = (weave_above (key x) xs [] tt a.0 tt, again [] tt tt)
       go again (w ∷ ws) f b = elim (cases (cmp (key x) (named w))) [
-          inl le ↦ elim le [
-              inl l ↦ subst (λ ys. Ascends key cmp ys) (sym (weave_step Less x xs w ws l))
-                (weave_above (key x) xs (w ∷ ws) f a.0 (l, above_less named cmp o (key x) (named w) ws l b.0), again (w ∷ ws) f b)
-            | inr e ↦ subst (λ ys. Ascends key cmp ys) (sym (weave_step Equal x xs w ws e))
-                (cons_ascends w (P xs ws) f.0 (weave_above (named w) xs ws f.1 (subst (λ k. Above key cmp k xs) (o.exact (key x) (named w) e) a.0) b.0) (again ws f.1 b.1)) ]
+        | inl le ↦ elim le [
+          | inl l ↦ subst (λ ys. Ascends key cmp ys) (sym (weave_step Less x xs w ws l))
+              (weave_above (key x) xs (w ∷ ws) f a.0 (l, above_less named cmp o (key x) (named w) ws l b.0), again (w ∷ ws) f b)
+          | inr e ↦ subst (λ ys. Ascends key cmp ys) (sym (weave_step Equal x xs w ws e))
+              (cons_ascends w (P xs ws) f.0 (weave_above (named w) xs ws f.1 (subst (λ k. Above key cmp k xs) (o.exact (key x) (named w) e) a.0) b.0) (again ws f.1 b.1))
+        ]
         | inr g ↦ (let l = turn o (key x) (named w) Greater g in subst (λ ys. Ascends key cmp ys) (sym (weave_step Greater x xs w ws g))
-            (cons_ascends w (P (x ∷ xs) ws) f.0 (weave_above (named w) (x ∷ xs) ws f.1 (l, above_less key cmp o (named w) (key x) xs l a.0) b.0) (go again ws f.1 b.1))) ]
+            (cons_ascends w (P (x ∷ xs) ws) f.0 (weave_above (named w) (x ∷ xs) ws f.1 (l, above_less key cmp o (named w) (key x) xs l a.0) b.0) (go again ws f.1 b.1)))
+      ]
 
   -- what is read of an item that a change gives
   cons_here : (w : W) (xs : List X) → ((x : X) → row w ≡ Some x → key x ≡ named w) → Above key cmp (named w) xs → G (named w) (cons_option (row w) xs) ≡ row w
@@ -113,8 +116,9 @@ module _ {X W K : Type 0} (key : X → K) (named : W → K) (row : W → Option 
       → (is_eq (cmp k (named w)) ≡ false → G k ys ≡ over row (N k ws) (G k xs))
       → G k (cons_option (row w) ys) ≡ over row (N k (w ∷ ws)) (G k xs)
   takes k w xs ys ws f a again = elim (here_or named cmp o k w) [
-      inl e ↦ ap (λ j. G j (cons_option (row w) ys)) e ∙ cons_here w ys f a ∙ sym (ap (λ n. over row n (G k xs)) (ap (λ j. N j (w ∷ ws)) e ∙ get_here named cmp o w ws))
-    | inr n ↦ cons_there k w ys f n ∙ again n ∙ sym (ap (λ m. over row m (G k xs)) (get_there named cmp o k w ws n)) ]
+    | inl e ↦ ap (λ j. G j (cons_option (row w) ys)) e ∙ cons_here w ys f a ∙ sym (ap (λ n. over row n (G k xs)) (ap (λ j. N j (w ∷ ws)) e ∙ get_here named cmp o w ws))
+    | inr n ↦ cons_there k w ys f n ∙ again n ∙ sym (ap (λ m. over row m (G k xs)) (get_there named cmp o k w ws n))
+  ]
 
   pub weave_reads : (k : K) (xs : List X) (ws : List W) → Fits key named row cmp ws → Ascends key cmp xs → Ascends named cmp ws → G k (P xs ws) ≡ over row (N k ws) (G k xs)
   weave_reads k [] ws f a b = go ws f b
@@ -127,33 +131,38 @@ module _ {X W K : Type 0} (key : X → K) (named : W → K) (row : W → Option 
       go : ((vs : List W) → Fits key named row cmp vs → Ascends named cmp vs → R k xs vs) → (ws : List W) → Fits key named row cmp ws → Ascends named cmp ws → R k (x ∷ xs) ws
       go again [] f b = ap (G k) (weave_nothing (x ∷ xs))
       go again (w ∷ ws) f b = elim (cases (cmp (key x) (named w))) [
-          inl le ↦ elim le [
-              inl l ↦ ap (G k) (weave_step Less x xs w ws l) ∙ elim (here_or key cmp o k x) [
-                  inl e ↦ ap (λ j. G j (x ∷ P xs (w ∷ ws))) e ∙ get_here key cmp o x (P xs (w ∷ ws))
-                    ∙ sym (ap (λ m. over row m (G k (x ∷ xs))) (ap (λ j. N j (w ∷ ws)) e ∙ above_none named cmp o (key x) (w ∷ ws) (l, above_less named cmp o (key x) (named w) ws l b.0)) ∙ ap (λ j. G j (x ∷ xs)) e ∙ get_here key cmp o x xs)
-                | inr n ↦ get_there key cmp o k x (P xs (w ∷ ws)) n ∙ again (w ∷ ws) f b ∙ ap (over row (N k (w ∷ ws))) (sym (get_there key cmp o k x xs n)) ]
-            | inr e ↦ ap (G k) (weave_step Equal x xs w ws e) ∙ takes k w (x ∷ xs) (P xs ws) ws f.0
-                (weave_above (named w) xs ws f.1 (subst (λ j. Above key cmp j xs) (o.exact (key x) (named w) e) a.0) b.0)
-                (λ n. again ws f.1 b.1 ∙ ap (over row (N k ws)) (sym (get_there key cmp o k x xs (ap (λ j. is_eq (cmp k j)) (o.exact (key x) (named w) e) ∙ n)))) ]
+        | inl le ↦ elim le [
+          | inl l ↦ ap (G k) (weave_step Less x xs w ws l) ∙ elim (here_or key cmp o k x) [
+            | inl e ↦ ap (λ j. G j (x ∷ P xs (w ∷ ws))) e ∙ get_here key cmp o x (P xs (w ∷ ws))
+                ∙ sym (ap (λ m. over row m (G k (x ∷ xs))) (ap (λ j. N j (w ∷ ws)) e ∙ above_none named cmp o (key x) (w ∷ ws) (l, above_less named cmp o (key x) (named w) ws l b.0)) ∙ ap (λ j. G j (x ∷ xs)) e ∙ get_here key cmp o x xs)
+            | inr n ↦ get_there key cmp o k x (P xs (w ∷ ws)) n ∙ again (w ∷ ws) f b ∙ ap (over row (N k (w ∷ ws))) (sym (get_there key cmp o k x xs n))
+          ]
+          | inr e ↦ ap (G k) (weave_step Equal x xs w ws e) ∙ takes k w (x ∷ xs) (P xs ws) ws f.0
+              (weave_above (named w) xs ws f.1 (subst (λ j. Above key cmp j xs) (o.exact (key x) (named w) e) a.0) b.0)
+              (λ n. again ws f.1 b.1 ∙ ap (over row (N k ws)) (sym (get_there key cmp o k x xs (ap (λ j. is_eq (cmp k j)) (o.exact (key x) (named w) e) ∙ n))))
+        ]
         | inr g ↦ (let l = turn o (key x) (named w) Greater g in ap (G k) (weave_step Greater x xs w ws g) ∙ takes k w (x ∷ xs) (P (x ∷ xs) ws) ws f.0
             (weave_above (named w) (x ∷ xs) ws f.1 (l, above_less key cmp o (named w) (key x) xs l a.0) b.0)
-            (λ n. go again ws f.1 b.1)) ]
+            (λ n. go again ws f.1 b.1))
+      ]
 
 -- one change woven into a list of changes
 module _ {W K : Type 0} (named : W → K) (cmp : K → K → Ordering) (o : Exact cmp) where
   pub weave_replaces : (xs : List W) (w x : W) (i : ℕ) → i ≡ rank named cmp (named w) xs → slice_get xs i ≡ Some x → cmp (named w) (named x) ≡ Equal → weave named named (λ (v : W). Some v) cmp xs (w ∷ []) ≡ slice_set xs i w
   weave_replaces [] w x i r s e = absurd (not_some x s)
   weave_replaces (y ∷ ys) w x i r s e = elim (cases (cmp (named w) (named y))) [
-      inl le ↦ elim le [
-          inl l ↦ (let z : i ≡ 0 = r ∙ ap (λ b. cond b (rank named cmp (named w) ys + 1) 0) (ap is_gt l) in
-            let yx : y ≡ x = some_is y x (sym (ap (λ j. slice_get (y ∷ ys) j) z) ∙ s) in
-            absurd (less_equal (sym l ∙ ap (λ q. cmp (named w) (named q)) yx ∙ e)))
-        | inr q ↦ (let z : i ≡ 0 = r ∙ ap (λ b. cond b (rank named cmp (named w) ys + 1) 0) (ap is_gt q) in
-            weave_step named named (λ (v : W). Some v) cmp o Equal y ys w [] (turn o (named w) (named y) Equal q) ∙ ap (λ zs. w ∷ zs) (weave_nothing named named (λ (v : W). Some v) cmp o ys) ∙ sym (ap (λ j. slice_set (y ∷ ys) j w) z)) ]
+    | inl le ↦ elim le [
+      | inl l ↦ (let z : i ≡ 0 = r ∙ ap (λ b. cond b (rank named cmp (named w) ys + 1) 0) (ap is_gt l) in
+          let yx : y ≡ x = some_is y x (sym (ap (λ j. slice_get (y ∷ ys) j) z) ∙ s) in
+          absurd (less_equal (sym l ∙ ap (λ q. cmp (named w) (named q)) yx ∙ e)))
+      | inr q ↦ (let z : i ≡ 0 = r ∙ ap (λ b. cond b (rank named cmp (named w) ys + 1) 0) (ap is_gt q) in
+          weave_step named named (λ (v : W). Some v) cmp o Equal y ys w [] (turn o (named w) (named y) Equal q) ∙ ap (λ zs. w ∷ zs) (weave_nothing named named (λ (v : W). Some v) cmp o ys) ∙ sym (ap (λ j. slice_set (y ∷ ys) j w) z))
+    ]
     | inr g ↦ (let z : i ≡ suc (rank named cmp (named w) ys) = r ∙ ap (λ b. cond b (rank named cmp (named w) ys + 1) 0) (ap is_gt g) ∙ rw add-one refl in
         weave_step named named (λ (v : W). Some v) cmp o Less y ys w [] (turn o (named w) (named y) Greater g)
         ∙ ap (λ zs. y ∷ zs) (weave_replaces ys w x (rank named cmp (named w) ys) refl (sym (ap (λ j. slice_get (y ∷ ys) j) z) ∙ s) e)
-        ∙ sym (ap (λ j. slice_set (y ∷ ys) j w) z)) ]
+        ∙ sym (ap (λ j. slice_set (y ∷ ys) j w) z))
+  ]
     where
       less_equal : Less ≡ Equal → ⊥
       less_equal h = cc
@@ -161,11 +170,13 @@ module _ {W K : Type 0} (named : W → K) (cmp : K → K → Ordering) (o : Exac
   pub weave_adds : (xs : List W) (w : W) (i : ℕ) → i ≡ rank named cmp (named w) xs → get named cmp (named w) xs ≡ None → weave named named (λ (v : W). Some v) cmp xs (w ∷ []) ≡ insert xs i w
   weave_adds [] w i r n = sym (ap (λ j. insert [] j w) r)
   weave_adds (y ∷ ys) w i r n = elim (cases (cmp (named w) (named y))) [
-      inl le ↦ elim le [
-          inl l ↦ (let z : i ≡ 0 = r ∙ ap (λ b. cond b (rank named cmp (named w) ys + 1) 0) (ap is_gt l) in
-            weave_step named named (λ (v : W). Some v) cmp o Greater y ys w [] (turn o (named w) (named y) Less l) ∙ ap (λ zs. w ∷ zs) (weave_nothing named named (λ (v : W). Some v) cmp o (y ∷ ys)) ∙ sym (ap (λ j. insert (y ∷ ys) j w) z))
-        | inr q ↦ absurd (not_some y (sym n ∙ ap (λ b. cond b (Some y) (get named cmp (named w) ys)) (ap is_eq q))) ]
+    | inl le ↦ elim le [
+      | inl l ↦ (let z : i ≡ 0 = r ∙ ap (λ b. cond b (rank named cmp (named w) ys + 1) 0) (ap is_gt l) in
+          weave_step named named (λ (v : W). Some v) cmp o Greater y ys w [] (turn o (named w) (named y) Less l) ∙ ap (λ zs. w ∷ zs) (weave_nothing named named (λ (v : W). Some v) cmp o (y ∷ ys)) ∙ sym (ap (λ j. insert (y ∷ ys) j w) z))
+      | inr q ↦ absurd (not_some y (sym n ∙ ap (λ b. cond b (Some y) (get named cmp (named w) ys)) (ap is_eq q)))
+    ]
     | inr g ↦ (let z : i ≡ suc (rank named cmp (named w) ys) = r ∙ ap (λ b. cond b (rank named cmp (named w) ys + 1) 0) (ap is_gt g) ∙ rw add-one refl in
         weave_step named named (λ (v : W). Some v) cmp o Less y ys w [] (turn o (named w) (named y) Greater g)
         ∙ ap (λ zs. y ∷ zs) (weave_adds ys w (rank named cmp (named w) ys) refl (sym (get_there named cmp o (named w) y ys (ap is_eq g)) ∙ n))
-        ∙ sym (ap (λ j. insert (y ∷ ys) j w) z)) ]
+        ∙ sym (ap (λ j. insert (y ∷ ys) j w) z))
+  ]

@@ -15,13 +15,12 @@ use Rattle.pg_value.specs.declared.shape.ColumnShape.{ColumnShape}
 use Rattle.pg_value.specs.declared.shape.TableShape.{TableShape}
 use Rattle.pg_value.specs.declared.shape.Shapes.{Shapes}
 use Rattle.pg_value.specs.declared.write.Write.{Write}
+use Rattle.pg_value.specs.declared.write.Stored.{Stored as StoredRow}
 use Rattle.pg_value.specs.Order.{Place, place_cmp}
 
 -- a row that a table holds, beside its key
-pub record Stored : Type 0 where
-  pub table : TableNo
-  pub key : Key
-  pub row : Row
+abbrev pub Stored : Type 0
+Stored = StoredRow
 
 abbrev pub place_of : Stored → Place
 place_of s = (s.table.0, s.key.values)

@@ -6,6 +6,8 @@ mod list;
 mod row;
 mod shape;
 mod sort;
+#[cfg(test)]
+mod tests;
 mod text;
 mod value;
 mod write;
@@ -20,4 +22,4 @@ pub use shape::{
 pub use sort::sort_rows;
 pub use text::Text;
 pub use value::{Cmp, Dir, Kind, Truth, Value, copy_value, order_values, print_value};
-pub use write::{Commit, PutFault, Write, Writes};
+pub use write::{Commit, PutFault, Stored, Write, Writes};

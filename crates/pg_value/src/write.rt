@@ -17,6 +17,14 @@ pub struct Write {
     pub row: Option<Row>,
 }
 
+/// A row that a table holds, beside its key.
+#[derive(Debug, Drop)]
+pub struct Stored {
+    pub table: TableNo,
+    pub key: Key,
+    pub row: Row,
+}
+
 /// Why a write was not put. Either way it is handed back, and the writes are as before.
 #[derive(Debug, Drop)]
 pub enum PutFault {
@@ -69,6 +77,7 @@ impl Writes {
     {
         self.list.len() as u64
     }
+
     /// The writes, in order of table and key.
     pub fn as_slice(&self) -> &[Write]
         ensures value { result.now ≡ self.now.list }
