@@ -2,3 +2,4 @@ pub mod Text
 pub mod Judged
 pub mod Session
 pub mod Legal
+pub mod Rows

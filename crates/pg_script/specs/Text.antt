@@ -55,6 +55,10 @@ values_text values = listed (map print_of values)
 abbrev pub tuple_text : List Value → List ℕ
 tuple_text values = codes "(" ++ (values_text values ++ codes ")")
 
+-- `TABLE KEY`, where a row stands or stood
+abbrev pub place_text : List ℕ → List Value → List ℕ
+place_text table key = name_text table ++ (codes " " ++ tuple_text key)
+
 -- OUTCOMES
 
 abbrev pub fault_word : FaultKind → List ℕ
@@ -87,7 +91,7 @@ column_fault_word NullNotAllowed = codes "NullNotAllowed"
 column_fault_word Range = codes "Range"
 column_fault_word TooLong = codes "TooLong"
 
--- ` at K`, ` from K`, ` row R`
+-- ` at K`, ` from K`, ` row R`, ` held H`
 abbrev pub at_text : ℕ → List ℕ
 at_text at = codes " at " ++ decimal at
 
@@ -97,9 +101,20 @@ from_text from = codes " from " ++ decimal from
 abbrev pub row_text : ℕ → List ℕ
 row_text row = codes " row " ++ decimal row
 
+abbrev pub held_text : ℕ → List ℕ
+held_text held = codes " held " ++ decimal held
+
 -- a row of an answer
 abbrev pub row_line : Row → List ℕ
 row_line r = line (codes "= " ++ values_text r.values)
+
+-- how many rows an answer has, its version and its base
+abbrev pub counted_line : ℕ → ℕ → ℕ → List ℕ
+counted_line rows at base = line (codes "rows " ++ (decimal rows ++ (at_text at ++ (codes " base " ++ decimal base))))
+
+-- the names of an answer's columns
+abbrev pub header_line : List (List ℕ) → List ℕ
+header_line names = line (codes ": " ++ listed (map name_text names))
 
 -- what follows the outcome's number and a space
 abbrev pub outcome_text : Outcome → List ℕ
@@ -110,9 +125,7 @@ outcome_text (ChangedAlone rows from at) = line (codes "changed " ++ (decimal ro
 outcome_text (Committed from at) = line (codes "commit" ++ (from_text from ++ at_text at))
 outcome_text (CommitEmpty at) = line (codes "commit empty" ++ at_text at)
 outcome_text (RolledBack at) = line (codes "rollback" ++ at_text at)
-outcome_text (Rows at base names rows) =
-    line (codes "rows " ++ (decimal (length rows) ++ (at_text at ++ (codes " base " ++ decimal base))))
-    ++ (line (codes ": " ++ listed (map name_text names)) ++ flat_map row_line rows)
+outcome_text (Rows at base names rows) = counted_line (length rows) at base ++ (header_line names ++ flat_map row_line rows)
 outcome_text (After name n at) = line (codes "after " ++ (name ++ (codes " " ++ (decimal n ++ at_text at))))
 outcome_text (AtByte kind byte) = line (codes "refused " ++ (fault_word kind ++ (codes " at byte " ++ decimal byte)))
 outcome_text AlreadyOpen = line (codes "refused AlreadyOpen")
@@ -120,13 +133,16 @@ outcome_text NotOpen = line (codes "refused NotOpen")
 outcome_text (Duplicate row at) = line (codes "refused Duplicate" ++ (row_text row ++ at_text at))
 outcome_text (TooManyWrites row at) = line (codes "refused TooManyWrites" ++ (row_text row ++ at_text at))
 outcome_text (AtColumn kind row column at) = line (codes "refused " ++ (column_fault_word kind ++ (row_text row ++ (codes " column " ++ (name_text column ++ at_text at)))))
-outcome_text (Conflict table key from at) = line (codes "refused Conflict " ++ (name_text table ++ (codes " " ++ (tuple_text key.values ++ (from_text from ++ at_text at)))))
-outcome_text (LogFull from held) = line (codes "refused LogFull" ++ (from_text from ++ (codes " held " ++ decimal held)))
+outcome_text (Conflict table key from at) = line (codes "refused Conflict " ++ (place_text table key.values ++ (from_text from ++ at_text at)))
+outcome_text (LogFull from held) = line (codes "refused LogFull" ++ (from_text from ++ held_text held))
+
+abbrev pub numbered_text : ℕ → Outcome → List ℕ
+numbered_text n o = decimal n ++ (codes " " ++ outcome_text o)
 
 -- the outcomes of a section, numbered from n
 abbrev pub outcomes_text : ℕ → List Outcome → List ℕ
 outcomes_text n [] = []
-outcomes_text n (o ∷ os) = decimal n ++ (codes " " ++ (outcome_text o ++ outcomes_text (n + 1) os))
+outcomes_text n (o ∷ os) = numbered_text n o ++ outcomes_text (n + 1) os
 
 -- SECTIONS
 
@@ -154,8 +170,8 @@ sections_text has_setup (setup ∷ sessions) = setup_text has_setup setup ++ fla
 
 -- `+ TABLE KEY = ROW`, or `- TABLE KEY` for a row that is gone
 abbrev pub write_text : List ℕ → List Value → Option Row → List ℕ
-write_text table key None = line (codes "- " ++ (name_text table ++ (codes " " ++ tuple_text key)))
-write_text table key (Some r) = line (codes "+ " ++ (name_text table ++ (codes " " ++ (tuple_text key ++ (codes " = " ++ tuple_text r.values)))))
+write_text table key None = line (codes "- " ++ place_text table key)
+write_text table key (Some r) = line (codes "+ " ++ (place_text table key ++ (codes " = " ++ tuple_text r.values)))
 
 -- the name of the thing with this number
 abbrev pub name_at : List (List ℕ) → ℕ → List ℕ
@@ -172,9 +188,13 @@ maker_text sections n = cond (n == 0) (codes "setup") (unwrap_or (option_map (λ
 abbrev pub commit_text : List SectionOut → List (List ℕ) → Commit → List ℕ
 commit_text sections tables c = line (maker_text sections c.session ++ from_text c.from) ++ flat_map (write_line tables) c.writes.list
 
+abbrev pub numbered_commit_text : List SectionOut → List (List ℕ) → ℕ → Commit → List ℕ
+numbered_commit_text sections tables n c = decimal n ++ (codes " " ++ commit_text sections tables c)
+
+-- commits, numbered from n
 abbrev pub commits_text : List SectionOut → List (List ℕ) → ℕ → List Commit → List ℕ
 commits_text sections tables n [] = []
-commits_text sections tables n (c ∷ cs) = decimal n ++ (codes " " ++ (commit_text sections tables c ++ commits_text sections tables (n + 1) cs))
+commits_text sections tables n (c ∷ cs) = numbered_commit_text sections tables n c ++ commits_text sections tables (n + 1) cs
 
 abbrev pub log_text : Transcript → List ℕ
 log_text t = line (codes "@log " ++ decimal (length t.log)) ++ commits_text t.sections t.tables 1 t.log

@@ -2,9 +2,11 @@
 #![tactic(auto)]
 
 mod outcome;
+mod printing;
 mod script;
 mod transcript;
 
 pub use outcome::{ColumnFault, FaultKind, Outcome};
+pub use printing::print;
 pub use script::{Item, Script, Section};
 pub use transcript::{SectionOut, Transcript};
