@@ -23,14 +23,15 @@ found_from : (name : List ℕ) (names : List (List ℕ)) (at i : ℕ) → positi
 found_from name [] at i h = absurd (none_is i h)
 found_from name (n ∷ ns) at i h =
     elim (bytes_eq name n) as (λ b. bytes_eq name n ≡ b → cond b (Some at) (position_from (λ other. bytes_eq name other) (at + 1) ns) ≡ Some i → (at ≤ i) × (slice_get (n ∷ ns) (i - at) ≡ Some name)) [
-        true ↦ λ e g.
+      | true ↦ λ e g.
           (let s : at ≡ i = some_is at i g in
-           let z : i - at ≡ 0 = omega arith in
-           (omega arith, ap (slice_get (n ∷ ns)) z ∙ ap Some (sym ((bytes_eq-Decides name n).0 e))))
+          let z : i - at ≡ 0 = omega arith in
+          (omega arith, ap (slice_get (n ∷ ns)) z ∙ ap Some (sym ((bytes_eq-Decides name n).0 e))))
       | false ↦ λ e g.
           (let r = found_from name ns (at + 1) i g in
-           let z : i - at ≡ suc (i - (at + 1)) = (let l = r.0 in omega arith) in
-           ((let l = r.0 in omega arith), ap (slice_get (n ∷ ns)) z ∙ r.1)) ] refl h
+          let z : i - at ≡ suc (i - (at + 1)) = (let l = r.0 in omega arith) in
+          ((let l = r.0 in omega arith), ap (slice_get (n ∷ ns)) z ∙ r.1))
+    ] refl h
 
 pub found : (name : List ℕ) (names : List (List ℕ)) (i : ℕ) → position (λ other. bytes_eq name other) names ≡ Some i → slice_get names i ≡ Some name
 found name names i h =

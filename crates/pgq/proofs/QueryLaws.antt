@@ -29,13 +29,37 @@ pub item_is : (s : Setup) (q : QueryForm) (c : ColumnForm) (x : ℕ) (v e : Opti
     → v ≡ place_of c.property s.vertex → e ≡ place_of c.property s.edge → chosen x v e ≡ Some p → h.var ≡ x → h.columns ≡ v ∷ e ∷ [] → h.name ≡ c.name
     → IsItem (catalog_of s) (entry_of s.graph) q c (hop_column h)
 item_is s q c zero v e p h a pv pe ch hv hc hn = record {
-  x = 0; n = 0; table = s.vertex; place = p; var = a; table_no = refl; table_at = refl; has = sym pv ∙ ch; checked = same_column s c 0 v e h pv pe hv hc hn
+  x = 0;
+  n = 0;
+  table = s.vertex;
+  place = p;
+  var = a;
+  table_no = refl;
+  table_at = refl;
+  has = sym pv ∙ ch;
+  checked = same_column s c 0 v e h pv pe hv hc hn;
 }
 item_is s q c (suc zero) v e p h a pv pe ch hv hc hn = record {
-  x = 1; n = 1; table = s.edge; place = p; var = a; table_no = refl; table_at = refl; has = sym pe ∙ ch; checked = same_column s c 1 v e h pv pe hv hc hn
+  x = 1;
+  n = 1;
+  table = s.edge;
+  place = p;
+  var = a;
+  table_no = refl;
+  table_at = refl;
+  has = sym pe ∙ ch;
+  checked = same_column s c 1 v e h pv pe hv hc hn;
 }
 item_is s q c (suc (suc zero)) v e p h a pv pe ch hv hc hn = record {
-  x = 2; n = 0; table = s.vertex; place = p; var = a; table_no = refl; table_at = refl; has = sym pv ∙ ch; checked = same_column s c 2 v e h pv pe hv hc hn
+  x = 2;
+  n = 0;
+  table = s.vertex;
+  place = p;
+  var = a;
+  table_no = refl;
+  table_at = refl;
+  has = sym pv ∙ ch;
+  checked = same_column s c 2 v e h pv pe hv hc hn;
 }
 item_is s q c (suc (suc (suc x))) v e p h a pv pe ch hv hc hn = absurd (none_some c.var a)
 

@@ -49,16 +49,16 @@ names_same (c ∷ cs) = ap (λ ns. c.name ∷ ns) (names_same cs)
 -- the query, by the table of outcomes
 judged : (text : List ℕ) (items : List Item) (item : Item) (s : Setup) (o : Outcome) (seen : ℕ) → IsSetup text items s → IsAnswered text item s o
     → Judged (language text) (now most_writes (setup_world {K = Catalog} 2 0 s.log (catalog_of s) s.outcomes).core (outs_of (setup_world {K = Catalog} 2 0 s.log (catalog_of s) s.outcomes).runs) [] 1) 1 seen
-        (record { open_ = None; catalog = catalog_of s }) item o (record { open_ = None; catalog = catalog_of s })
+    (record { open_ = None; catalog = catalog_of s }) item o (record { open_ = None; catalog = catalog_of s })
 judged text items item s o seen h a =
     let t : Tables = after s.log (length s.log) in
     let y : CheckedQuery = one_hop_query (graph_shape 0 (entry_of s.graph)) (set_of 0) (set_of 1) (map hop_column a.columns) in
     let none : put t [] ≡ t = put_nothing place_of named row_given place_cmp places t in
     let ans : Answer (shapes_of (catalog_of s)) t y a.rows =
-        a.answer (catalog_of s) (entry_of s.graph) t (record { only = refl; vertex = refl; edge = refl; source_at = refl; dest_at = refl }) h.holds in
+    a.answer (catalog_of s) (entry_of s.graph) t (record { only = refl; vertex = refl; edge = refl; source_at = refl; dest_at = refl }) h.holds in
     answered a.form y (length s.log) 0 [] t a.rows a.read (y, a.checked, refl) (inr (refl, refl, refl)) refl refl
-      (subst (λ (u : Tables). Answer (shapes_of (catalog_of s)) u y a.rows) (sym none) ans) a.sorted
-      (a.is_outcome ∙ ap (λ ns. Rows (length s.log) 0 ns a.rows) (names_same a.columns)) refl
+    (subst (λ (u : Tables). Answer (shapes_of (catalog_of s)) u y a.rows) (sym none) ans) a.sorted
+    (a.is_outcome ∙ ap (λ ns. Rows (length s.log) 0 ns a.rows) (names_same a.columns)) refl
 
 -- a list of two, read at both places
 both : {A : Type 0} (xs : List A) (a b c d : A) → xs ≡ a ∷ b ∷ [] → slice_get xs 0 ≡ Some c → slice_get xs 1 ≡ Some d → xs ≡ c ∷ d ∷ []
@@ -94,13 +94,13 @@ run_is bytes script setup session t is first second r =
     let two : script.sections ≡ setup ∷ session ∷ [] = both script.sections _ _ setup session is.sections first second in
     let single : session.items ≡ r.item ∷ [] = one_item session.items r.item r.one r.item_at in
     let turns : Turns J most_writes script (first_world script nothing) (setup_turns script) (setup_world 2 0 s.log (catalog_of s) s.outcomes) =
-        subst (λ k. Turns J most_writes script (first_world script nothing) (replicate k 0) (setup_world 2 0 s.log (catalog_of s) s.outcomes))
-          (r.whole ∙ ap length (sym (items_first script setup session two)))
-          (r.run.turns script (ap length two) (items_first script setup session two)) in
+    subst (λ k. Turns J most_writes script (first_world script nothing) (replicate k 0) (setup_world 2 0 s.log (catalog_of s) s.outcomes))
+    (r.whole ∙ ap length (sym (items_first script setup session two)))
+    (r.run.turns script (ap length two) (items_first script setup session two)) in
     let stepped : Stepped J nothing most_writes script (alone_transcript J script setup session s.log (catalog_of s) s.outcomes (r.outcome ∷ [])) =
-        alone_run J nothing most_writes script setup session r.item 0 s.log (catalog_of s) s.outcomes r.outcome two is.order single turns
-          (judged bytes setup.items r.item s r.outcome (setup_of s.log) r.run r.answered)
-          (ap is_definition r.answered.is_outcome) (ap printed r.answered.is_outcome) r.few in
+    alone_run J nothing most_writes script setup session r.item 0 s.log (catalog_of s) s.outcomes r.outcome two is.order single turns
+    (judged bytes setup.items r.item s r.outcome (setup_of s.log) r.run r.answered)
+    (ap is_definition r.answered.is_outcome) (ap printed r.answered.is_outcome) r.few in
     let title : setup.name ≡ codes "setup" = ap (λ (ss : List Section). (get_or ss 0 no_section).name) (sym two ∙ is.sections) in
     let same : alone_transcript J script setup session s.log (catalog_of s) s.outcomes (r.outcome ∷ []) ≡ t = transcript_same bytes script setup session s r.outcome t is.has_setup title r.transcript in
     let step : Stepped J nothing most_writes script t = subst (Stepped J nothing most_writes script) same stepped in

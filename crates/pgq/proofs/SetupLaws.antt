@@ -73,14 +73,18 @@ module _ (text : List ℕ) (item : Item) (s s' : Setup) (i : HasInserted text it
   logs : held log ≡ length log → length log < 256 → (core_log : List Commit) → core_log ≡ log → (now most_writes (setup_world {K = Catalog} 2 0 log (catalog_of s) s.outcomes).core (outs_of (setup_world {K = Catalog} 2 0 log (catalog_of s) s.outcomes).runs) (i.commit ∷ []) 0).logs (length log + 1) i.commit
   logs h l core_log e =
       let from = i.is_commit.from in
-      let writes = i.is_commit.writes in
-      (refl, refl, (omega arith), (λ n. not_empty w [] (sym writes ∙ n)),
-       ap (λ k. conflict log k i.commit.writes.list) from ∙ no_conflict log i.commit.writes.list,
-       (let one : length i.commit.writes.list ≡ 1 = ap length writes in omega arith))
+      let writes = i.is_commit.writes in (
+        refl,
+        refl,
+        (omega arith),
+        (λ n. not_empty w [] (sym writes ∙ n)),
+        ap (λ k. conflict log k i.commit.writes.list) from ∙ no_conflict log i.commit.writes.list,
+        (let one : length i.commit.writes.list ≡ 1 = ap length writes in omega arith),
+      )
 
   judged : Holds (after log (length log)) s.vertices s.edges → held log ≡ length log → length log < 256
       → Judged (language text) (now most_writes (setup_world {K = Catalog} 2 0 log (catalog_of s) s.outcomes).core (outs_of (setup_world {K = Catalog} 2 0 log (catalog_of s) s.outcomes).runs) (i.commit ∷ []) 0) 0 (raised 0 s.outcomes)
-          (record { open_ = None; catalog = catalog_of s }) item (ChangedAlone 1 (length log) (length log + 1)) (record { open_ = None; catalog = catalog_of s })
+      (record { open_ = None; catalog = catalog_of s }) item (ChangedAlone 1 (length log) (length log + 1)) (record { open_ = None; catalog = catalog_of s })
   judged holds h l = changed_alone i.form w (length log) 1 (w ∷ []) (after log (length log)) i.read (taken s i.form i.table i.goes) refl refl refl
       (ap (stored_at (named w)) (put_nothing place_of named row_given place_cmp places (after log (length log))) ∙ new_key (after log (length log)) s s' i.table w refl holds i.placed, refl)
       (omega arith) (logged (length log + 1) i.commit (logs h l log refl) i.is_commit refl) refl
@@ -95,27 +99,27 @@ each_snoc P (y ∷ ys) x h p = (h.0, each_snoc P ys x h.1 p)
 pub inserted : (text : List ℕ) (items : List Item) (item : Item) (s s' : Setup) → IsSetup text items s → length s.log < 256 → slice_get items (length s.outcomes) ≡ Some item → HasInserted text item s s' → IsSetup text items s'
 inserted text items item s s' h l next i = record {
   turns = λ script two same.
-    let j = judged text item s s' i h.holds h.held_all l in
-    let u = setup_turn_alone (language text) most_writes script 2 0 s.log (catalog_of s) s.outcomes item (ChangedAlone 1 (length s.log) (length s.log + 1)) (i.commit ∷ []) (catalog_of s) refl
-        (ap (λ is. slice_get is (length s.outcomes)) same ∙ next) j refl (omega arith) in
-    let t = setup_more (language text) most_writes script (first_world script nothing) (setup_world 2 0 s.log (catalog_of s) s.outcomes)
-        (setup_world 2 0 (s.log ++ i.commit ∷ []) (catalog_of s) (s.outcomes ++ ChangedAlone 1 (length s.log) (length s.log + 1) ∷ [])) s.outcomes (ChangedAlone 1 (length s.log) (length s.log + 1)) (h.turns script two same) u in
-    let goal : List Outcome → List Commit → Catalog → Type 0 = λ os log k. Turns (language text) most_writes script (first_world script nothing) (replicate (length os) 0) (setup_world 2 0 log k os) in
-    subst (λ os. goal os s'.log (catalog_of s')) (sym i.outcomes) (subst (λ log. goal (s.outcomes ++ ChangedAlone 1 (length s.log) (length s.log + 1) ∷ []) log (catalog_of s')) (sym i.log)
+      let j = judged text item s s' i h.holds h.held_all l in
+      let u = setup_turn_alone (language text) most_writes script 2 0 s.log (catalog_of s) s.outcomes item (ChangedAlone 1 (length s.log) (length s.log + 1)) (i.commit ∷ []) (catalog_of s) refl
+      (ap (λ is. slice_get is (length s.outcomes)) same ∙ next) j refl (omega arith) in
+      let t = setup_more (language text) most_writes script (first_world script nothing) (setup_world 2 0 s.log (catalog_of s) s.outcomes)
+      (setup_world 2 0 (s.log ++ i.commit ∷ []) (catalog_of s) (s.outcomes ++ ChangedAlone 1 (length s.log) (length s.log + 1) ∷ [])) s.outcomes (ChangedAlone 1 (length s.log) (length s.log + 1)) (h.turns script two same) u in
+      let goal : List Outcome → List Commit → Catalog → Type 0 = λ os log k. Turns (language text) most_writes script (first_world script nothing) (replicate (length os) 0) (setup_world 2 0 log k os) in
+      subst (λ os. goal os s'.log (catalog_of s')) (sym i.outcomes) (subst (λ log. goal (s.outcomes ++ ChangedAlone 1 (length s.log) (length s.log + 1) ∷ []) log (catalog_of s')) (sym i.log)
       (subst (λ k. goal (s.outcomes ++ ChangedAlone 1 (length s.log) (length s.log + 1) ∷ []) (s.log ++ i.commit ∷ []) k) (same_setup s s' i.same_vertex i.same_edge i.same_graph) t));
   holds =
-    let w : Write = row_write i.table i.form.numbers in
-    let more : after s'.log (length s'.log) ≡ put (after s.log (length s.log)) (w ∷ []) =
-        ap (λ log. after log (length log)) i.log ∙ after_more s.log i.commit ∙ ap (put (after s.log (length s.log))) i.is_commit.writes in
-    subst (λ t. Holds t s'.vertices s'.edges) (sym more) (hold_more (after s.log (length s.log)) s s' i.table w refl h.holds i.placed);
+      let w : Write = row_write i.table i.form.numbers in
+      let more : after s'.log (length s'.log) ≡ put (after s.log (length s.log)) (w ∷ []) =
+      ap (λ log. after log (length log)) i.log ∙ after_more s.log i.commit ∙ ap (put (after s.log (length s.log))) i.is_commit.writes in
+      subst (λ t. Holds t s'.vertices s'.edges) (sym more) (hold_more (after s.log (length s.log)) s s' i.table w refl h.holds i.placed);
   counted =
-    let a : length s'.outcomes ≡ length s.outcomes + 1 = ap length i.outcomes ∙ length-append s.outcomes (ChangedAlone 1 (length s.log) (length s.log + 1) ∷ []) in
-    let b : length s'.log ≡ length s.log + 1 = ap length i.log ∙ length-append s.log (i.commit ∷ []) in
-    let c = h.counted in omega arith;
+      let a : length s'.outcomes ≡ length s.outcomes + 1 = ap length i.outcomes ∙ length-append s.outcomes (ChangedAlone 1 (length s.log) (length s.log + 1) ∷ []) in
+      let b : length s'.log ≡ length s.log + 1 = ap length i.log ∙ length-append s.log (i.commit ∷ []) in
+      let c = h.counted in omega arith;
   held_all =
-    let a : held s'.log ≡ held s.log + 1 = ap held i.log ∙ held_more s.log i.commit ∙ ap (λ ws. held s.log + length ws) i.is_commit.writes in
-    let b : length s'.log ≡ length s.log + 1 = ap length i.log ∙ length-append s.log (i.commit ∷ []) in
-    let c = h.held_all in omega arith;
+      let a : held s'.log ≡ held s.log + 1 = ap held i.log ∙ held_more s.log i.commit ∙ ap (λ ws. held s.log + length ws) i.is_commit.writes in
+      let b : length s'.log ≡ length s.log + 1 = ap length i.log ∙ length-append s.log (i.commit ∷ []) in
+      let c = h.held_all in omega arith;
   by_setup = subst (Each (λ c. c.session ≡ 0)) (sym i.log) (each_snoc (λ c. c.session ≡ 0) s.log i.commit h.by_setup i.is_commit.session);
   few_vertex = subst (λ t. length t.columns ≤ 32) (sym i.same_vertex) h.few_vertex;
   few_edge = subst (λ t. length t.columns ≤ 32) (sym i.same_edge) h.few_edge;
@@ -169,14 +173,14 @@ module _ (text : List ℕ) (items : List Item) (s : Setup) (d : AreDefinitions t
       let w3 : World Catalog = setup_world 2 0 [] (catalog_of s) (one ∷ two ∷ three ∷ []) in
       let t0 : Turns J most_writes script (first_world script nothing) [] w0 = sym (setup_begins script 2 nothing sections (omega arith)) in
       let u1 : Turn J most_writes script w0 0 w1 = setup_turn_defining J most_writes script 2 0 [] nothing [] d.first s.vertex.name 0 k1 (ap (λ is. slice_get is 0) same ∙ d.first_at)
-          (defined (OfTable s.vertex) (start_of d.first) s.vertex.name 0 k1 d.first_read refl refl
-            (record { free = (tt, tt); some = d.some_vertex; few = d.few_vertex; differ = d.differ_vertex }, refl) refl refl refl) in
+      (defined (OfTable s.vertex) (start_of d.first) s.vertex.name 0 k1 d.first_read refl refl
+      (record { free = (tt, tt); some = d.some_vertex; few = d.few_vertex; differ = d.differ_vertex }, refl) refl refl refl) in
       let u2 : Turn J most_writes script w1 0 w2 = setup_turn_defining J most_writes script 2 0 [] k1 (one ∷ []) d.second s.edge.name 0 k2 (ap (λ is. slice_get is 1) same ∙ d.second_at)
-          (defined (OfTable s.edge) (start_of d.second) s.edge.name 0 k2 d.second_read refl refl
-            (record { free = ((d.other, tt), tt); some = d.some_edge; few = d.few_edge; differ = d.differ_edge }, refl) refl refl refl) in
+      (defined (OfTable s.edge) (start_of d.second) s.edge.name 0 k2 d.second_read refl refl
+      (record { free = ((d.other, tt), tt); some = d.some_edge; few = d.few_edge; differ = d.differ_edge }, refl) refl refl refl) in
       let u3 : Turn J most_writes script w2 0 w3 = setup_turn_defining J most_writes script 2 0 [] k2 (one ∷ two ∷ []) d.third s.graph.form.name 0 (catalog_of s) (ap (λ is. slice_get is 2) same ∙ d.third_at)
-          (defined (OfGraph s.graph.form) (start_of d.third) s.graph.form.name 0 (catalog_of s) d.third_read refl refl
-            (entry_of s.graph, d.graph, refl) refl refl refl) in
+      (defined (OfGraph s.graph.form) (start_of d.third) s.graph.form.name 0 (catalog_of s) d.third_read refl refl
+      (entry_of s.graph, d.graph, refl) refl refl refl) in
       let t1 = setup_more J most_writes script (first_world script nothing) w0 w1 [] one t0 u1 in
       let t2 = setup_more J most_writes script (first_world script nothing) w1 w2 (one ∷ []) two t1 u2 in
       setup_more J most_writes script (first_world script nothing) w2 w3 (one ∷ two ∷ []) three t2 u3
@@ -184,8 +188,8 @@ module _ (text : List ℕ) (items : List Item) (s : Setup) (d : AreDefinitions t
   pub begun : s.vertices ≡ [] → s.edges ≡ [] → s.log ≡ [] → s.outcomes ≡ one ∷ two ∷ three ∷ [] → IsSetup text items s
   begun vs es ls os = record {
     turns = λ script sections same.
-      let goal : List Outcome → List Commit → Type 0 = λ os log. Turns (language text) most_writes script (first_world script nothing) (replicate (length os) 0) (setup_world 2 0 log (catalog_of s) os) in
-      subst (λ o. goal o s.log) (sym os) (subst (λ l. goal (one ∷ two ∷ three ∷ []) l) (sym ls) (begins script sections same));
+        let goal : List Outcome → List Commit → Type 0 = λ os log. Turns (language text) most_writes script (first_world script nothing) (replicate (length os) 0) (setup_world 2 0 log (catalog_of s) os) in
+        subst (λ o. goal o s.log) (sym os) (subst (λ l. goal (one ∷ two ∷ three ∷ []) l) (sym ls) (begins script sections same));
     holds = subst (λ l. Holds (after l (length l)) s.vertices s.edges) (sym ls) (record { in_order = tt; of_vertices = sym vs; of_edges = sym es });
     counted = (let a = ap length os in let b = ap length ls in omega arith);
     held_all = ap held ls ∙ sym (ap length ls);

@@ -133,8 +133,11 @@ table_shape t = record { columns = column_shapes t.columns; key = 0 ∷ [] }
 
 abbrev pub edge_shape : GraphEntry → EdgeShape
 edge_shape g = record {
-  table = record { 0 = g.edge }; source = record { 0 = g.vertex }; source_columns = g.source ∷ [];
-  dest = record { 0 = g.vertex }; dest_columns = g.dest ∷ []
+  table = record { 0 = g.edge };
+  source = record { 0 = g.vertex };
+  source_columns = g.source ∷ [];
+  dest = record { 0 = g.vertex };
+  dest_columns = g.dest ∷ [];
 }
 
 abbrev pub shapes_of : Catalog → Shapes

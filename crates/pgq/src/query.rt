@@ -4,12 +4,13 @@ ghost use Rattle.pg_keyed.specs.Keyed.{Ascends};
 ghost use Rattle.pg_value.specs.Order.{key_cmp};
 ghost use Rattle.pg_value.specs.TablesLaws.{key_of};
 ghost use Rattle.pgq.specs.Language.{IsItem};
+ghost use Rattle.pgq.specs.Language as spec;
 ghost use Rattle.pgq.specs.Hop.{hop_column};
 ghost use Rattle.pgq.specs.Setup.{catalog_of, entry_of, chosen, IsOverGraph, IsAnswered};
 
 use crate::catalog::query;
 use crate::cursor::Unread;
-use crate::form::{ColumnForm, QueryForm};
+use crate::form::{ColumnForm, QueryForm, TableForm};
 use crate::hop::{HopColumn, hop_rows};
 use crate::names::place_of;
 use crate::setup::Setup;
@@ -18,14 +19,14 @@ use pg_value::{List, Text};
 use std::alloc::Global;
 
 /// Which variable of the pattern a name is: 0 the source, 1 the edge, 2 the destination.
-fn variable_of(query: &QueryForm, name: &str) -> Result<u32, Unread>
+fn variable_of(query: &QueryForm, name: &Text) -> Result<u32, Unread>
     ensures { IfOk result (λ x. slice_get (query.now.source ∷ query.now.edge ∷ query.now.dest ∷ []) x ≡ Some name.now) }
 {
-    if query.source.as_str() == name {
+    if query.source.as_str() == name.as_str() {
         Ok(0)
-    } else if query.edge.as_str() == name {
+    } else if query.edge.as_str() == name.as_str() {
         Ok(1)
-    } else if query.dest.as_str() == name {
+    } else if query.dest.as_str() == name.as_str() {
         Ok(2)
     } else {
         Err(Unread::Form)
@@ -42,6 +43,14 @@ fn chosen(var: u32, vertex: Option<u32>, edge: Option<u32>) -> Option<u32>
     }
 }
 
+/// The place of a column of this name in a table.
+fn place_in(table: &TableForm, name: &Text) -> Option<u32>
+    requires { length table.now.columns ≤ 32 }
+    ensures { result ≡ spec.place_of name.now table.now }
+{
+    place_of(name.as_str(), table.columns.as_slice())
+}
+
 /// The column of the answer that an item asks for.
 fn column_of(
     alloc: Global,
@@ -53,9 +62,9 @@ fn column_of(
     requires edge { length setup.now.edge.columns ≤ 32 }
     ensures { IfOk result (λ h. IsItem (catalog_of setup.now) (entry_of setup.now.graph) query.now item.now (hop_column h)) }
 {
-    let var = variable_of(query, item.var.as_str())?;
-    let vertex = place_of(item.property.as_str(), setup.vertex.columns.as_slice());
-    let edge = place_of(item.property.as_str(), setup.edge.columns.as_slice());
+    let var = variable_of(query, &item.var)?;
+    let vertex = place_in(&setup.vertex, &item.property);
+    let edge = place_in(&setup.edge, &item.property);
     match chosen(var, vertex, edge) {
         Some(_place) => {
             let columns = pair(alloc, vertex, edge)?;
@@ -126,7 +135,14 @@ pub fn answer(alloc: Global, text: &[u8], item: &Item, setup: &Setup) -> Result<
     let vertices = setup.vertices.as_slice();
     let edges = setup.edges.as_slice();
     let graph = &setup.graph;
-    let rows = hop_rows(alloc, vertices, edges, graph.source, graph.dest, columns.as_slice())?;
+    let rows = hop_rows(
+        alloc,
+        vertices,
+        edges,
+        graph.source,
+        graph.dest,
+        columns.as_slice(),
+    )?;
     let names = names_of(alloc, columns.as_slice())?;
     Ok(Outcome::Rows {
         at: setup.log.len() as u64,

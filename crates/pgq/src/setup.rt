@@ -12,7 +12,8 @@ use crate::cursor::{Unread, at};
 use crate::form::{InsertForm, NumberForm, TableForm};
 use pg_script::{Item, Outcome};
 use pg_value::{
-    Commit, Key, List, Row, Stored, TableNo, Text, Value, Write, Writes, copy_key, copy_row, order_keys,
+    Commit, Key, List, Row, Stored, TableNo, Text, Value, Write, Writes, copy_key, copy_row,
+    order_keys,
 };
 use std::alloc::Global;
 

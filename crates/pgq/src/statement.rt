@@ -5,9 +5,7 @@ ghost use Rattle.pgq.specs.Form as spec;
 ghost use Rattle.pgq.specs.Form.{kinds, IsName, IsNumber, listed, AreColumnNames, IsTable, IsGraph, IsInsert, IsQuery};
 
 use crate::cursor::{Cursor, Unread};
-use crate::form::{
-    ColumnForm, GraphForm, InsertForm, NumberForm, QueryForm, TableForm,
-};
+use crate::form::{ColumnForm, GraphForm, InsertForm, NumberForm, QueryForm, TableForm};
 use pg_lex::Token;
 use pg_value::{List, Text};
 use std::alloc::Global;
@@ -74,7 +72,12 @@ fn in_parentheses(alloc: Global, cursor: &mut Cursor<'_>) -> Result<Text, Unread
 }
 
 /// `KEY (column) REFERENCES table (key)` behind this word: its column and its key.
-fn end(alloc: Global, cursor: &mut Cursor<'_>, which: &str, table: &str) -> Result<(Text, Text), Unread>
+fn end(
+    alloc: Global,
+    cursor: &mut Cursor<'_>,
+    which: &str,
+    table: &str,
+) -> Result<(Text, Text), Unread>
     ensures spelled { IfOk result (λ found. kinds cursor.old ≡ spec.end_tokens which.now found.0 table.now found.1 ++ kinds cursor.new) }
     ensures named { IfOk result (λ found. IsName found.0 × IsName found.1) }
 {

@@ -1,24 +1,26 @@
-ghost use Rattle.std.specs.Prelude.{◌≤◌, IfOk};
-ghost use Rattle.pgq.specs.Headline.{StepMeans, Transcribes};
+ghost use Rattle.std.specs.Prelude.{◌≤◌, ◌<◌, ◌^◌, length, IfOk};
+ghost use Rattle.pgq.specs.Headline.{StepMeans, IsTextOf};
 
 use crate::bytes::{ReadError, read_all, write_all};
+use crate::cursor::Unread;
+use crate::run::run;
 use crate::status::Status;
 use pg_outside::{Sink, Source};
+use pg_script::print;
 use pg_value::Text;
 use std::alloc::{AllocError, Global};
 
 /// The most bytes that a script may have.
 const MOST_BYTES: usize = 65536;
 
-/// What running the script that these bytes are writes, or none where they are no script that is run yet.
-fn transcript_text(alloc: Global, bytes: &[u8]) -> Result<Option<Text>, AllocError>
-    ensures { IfOk result (Transcribes bytes.now) }
+/// The text of the transcript of the script that these bytes are.
+fn transcript_text(alloc: Global, bytes: &[u8]) -> Result<Text, Unread>
+    requires { length bytes.now < 2 ^ 32 }
+    ensures { IfOk result (IsTextOf bytes.now) }
 {
-    if !bytes.is_empty() {
-        return Ok(None);
-    }
-    let text = Text::from_str(alloc, "@log 0\n@peak kept 1 pins 0\n@end\n")?;
-    Ok(Some(text))
+    let transcript = run(alloc, bytes)?;
+    let text = print(alloc, &transcript)?;
+    Ok(text)
 }
 
 /// Reads a script from the source, runs it turn by turn, and writes the text of its transcript to the sink. It waits for
@@ -38,9 +40,9 @@ pub fn stepped<I: Source, O: Sink>(alloc: Global, source: &mut I, sink: &mut O) 
         return Status::NotYet;
     }
     let text = match transcript_text(alloc, bytes.as_slice()) {
-        Ok(Some(text)) => text,
-        Ok(None) => return Status::NotYet,
-        Err(_) => return Status::Memory,
+        Ok(text) => text,
+        Err(Unread::Form) => return Status::NotYet,
+        Err(Unread::Memory) => return Status::Memory,
     };
     match write_all(sink, text.as_bytes()) {
         Ok(()) => Status::Done,

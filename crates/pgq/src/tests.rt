@@ -9,7 +9,52 @@ use pg_value::{List, Text};
 use std::alloc::{AllocError, Global};
 use std::test::Fail;
 
-const EMPTY_RUN: &str = "@log 0\n@peak kept 1 pins 0\n@end\n";
+const SCRIPT: &str = "@setup
+CREATE TABLE person (id INTEGER PRIMARY KEY, age INTEGER);
+CREATE TABLE knows (id INTEGER PRIMARY KEY, a INTEGER, b INTEGER);
+CREATE PROPERTY GRAPH social VERTEX TABLES (person)
+  EDGE TABLES (knows SOURCE KEY (a) REFERENCES person (id)
+    DESTINATION KEY (b) REFERENCES person (id));
+INSERT INTO person VALUES (1, 30);
+INSERT INTO person VALUES (2, 40);
+INSERT INTO knows VALUES (7, 1, 2);
+INSERT INTO knows VALUES (8, 1, 2);
+INSERT INTO knows VALUES (9, 2, 5);
+@session a
+SELECT * FROM GRAPH_TABLE (social MATCH (x)-[e]->(y)
+  COLUMNS (x.id AS p, y.age AS q));
+";
+
+const TRANSCRIPT: &str = "@setup
+1 defined PERSON at 0
+2 defined KNOWS at 0
+3 defined SOCIAL at 0
+4 changed 1 from 0 at 1
+5 changed 1 from 1 at 2
+6 changed 1 from 2 at 3
+7 changed 1 from 3 at 4
+8 changed 1 from 4 at 5
+end
+@session a
+1 rows 2 at 5 base 0
+: P, Q
+= 1, 40
+= 1, 40
+end
+@log 5
+1 setup from 0
++ PERSON (1) = (1, 30)
+2 setup from 1
++ PERSON (2) = (2, 40)
+3 setup from 2
++ KNOWS (7) = (7, 1, 2)
+4 setup from 3
++ KNOWS (8) = (8, 1, 2)
+5 setup from 4
++ KNOWS (9) = (9, 2, 5)
+@peak kept 1 pins 0
+@end
+";
 
 fn source(alloc: Global, text: &[u8], piece: usize, fails: &[u64]) -> Result<MemSource, AllocError>
     requires { 0 < piece }
@@ -111,16 +156,16 @@ fn words_have_a_form_or_none(rt: HostRuntime) -> Result<(), Fail> {
     Ok(())
 }
 
-/// An empty script, read and written a byte at a time: a read that fails, a write that fails after five bytes, and none.
+/// A script, read and written a byte at a time: no fault, a read that fails, and a sink that is full after five bytes.
 #[test]
 fn statuses_of_runs(rt: HostRuntime) -> Result<(), Fail> {
     let alloc = rt.alloc();
     for (fail, room, status, number, held) in [
-        (0, 99, Status::Done, 0, EMPTY_RUN),
-        (1, 99, Status::ReadFault, 3, ""),
-        (0, 5, Status::WriteFault, 4, "@log "),
+        (0, 999, Status::Done, 0, TRANSCRIPT),
+        (1, 999, Status::ReadFault, 3, ""),
+        (0, 5, Status::WriteFault, 4, "@setu"),
     ] {
-        let mut from = source(alloc, b"", 1, &[fail])?;
+        let mut from = source(alloc, SCRIPT.as_bytes(), 1, &[fail])?;
         let mut to = sink(alloc, room, 1, &[])?;
         let answer = top(alloc, &words(alloc, "step")?, &mut from, &mut to);
         assert_eq!(rt; answer, status);

@@ -13,6 +13,6 @@ loop-turn-preserved c =
     record {
       some = subst (λ ys. 0 < length ys) (sym e) (let n = length-append xs (x ∷ []) in omega arith);
       spelled = subst (λ ys. kinds c.args.cursor.now ≡ listed column_tokens more_item ys ++ kinds c.more_item.new.cursor) (sym e)
-        (one_more column_tokens more_item xs x (kinds c.args.cursor.now) (kinds c.loop-turn.cursor) (kinds c.more_item.new.cursor) c.loop-turn.invariant.some c.loop-turn.invariant.spelled c.in_ok-more_item.ensures.spelled);
+          (one_more column_tokens more_item xs x (kinds c.args.cursor.now) (kinds c.loop-turn.cursor) (kinds c.more_item.new.cursor) c.loop-turn.invariant.some c.loop-turn.invariant.spelled c.in_ok-more_item.ensures.spelled);
       named = subst (Each AreColumnNames) (sym e) (each_more AreColumnNames xs x c.loop-turn.invariant.named c.in_ok-more_item.ensures.named);
     }
