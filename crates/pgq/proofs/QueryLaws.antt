@@ -7,7 +7,6 @@ use Rattle.std.specs.List.{AllZip}
 use Rattle.std.proofs.lemmas.List.{take_more, map-append}
 use Rattle.pg_value.specs.declared.value.Kind.TheVariants as kind
 use Rattle.pg_ast.specs.declared.checked.CExpr.TheVariants.{Property}
-use Rattle.pg_ast.specs.declared.checked.CheckedColumn.{CheckedColumn}
 use Rattle.pgq.specs.declared.form.QueryForm.{QueryForm}
 use Rattle.pgq.specs.declared.form.ColumnForm.{ColumnForm}
 use Rattle.pgq.specs.declared.setup.Setup.{Setup}

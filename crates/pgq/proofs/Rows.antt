@@ -1,10 +1,9 @@
 -- A row of a new key is put at the place where it was sought.
-use Rattle.std.proofs.Common.{◌≡◌, ℕ, List, [], ◌∷◌, refl, ap, sym, subst, ◌∙◌}
+use Rattle.std.proofs.Common.{◌≡◌, ℕ, List, [], ◌∷◌, refl, ap, sym, ◌∙◌}
 use Rattle.std.specs.Prelude.{Result, Ok, Err, OnOk, insert}
 use Rattle.std.specs.declared.option.Option.{Option}
 use Rattle.std.specs.declared.option.Option.TheVariants.{Some, None}
-use Rattle.std.specs.Option.{option_map}
-use Rattle.pg_keyed.specs.Keyed.{Ascends, Sought, merge, put}
+use Rattle.pg_keyed.specs.Keyed.{Ascends, Sought}
 use Rattle.pg_keyed.specs.Searches.{sought_adds}
 use Rattle.pg_value.specs.declared.row.Row.{Row}
 use Rattle.pg_value.specs.declared.write.Write.{Write}

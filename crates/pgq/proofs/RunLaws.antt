@@ -1,11 +1,8 @@
 -- What a setup and the answer of one query make is a stepped run, and so a legal transcript.
-use Rattle.std.proofs.Common.{◌≡◌, ℕ, ◌+◌, ◌<◌, ◌≤◌, Bool, false, List, [], ◌∷◌, ◌++◌, map, length, replicate, inr, refl, ap, sym, subst, ◌∙◌, arith}
+use Rattle.std.proofs.Common.{◌≡◌, ℕ, false, List, [], ◌∷◌, map, length, replicate, inr, refl, ap, sym, subst, ◌∙◌, arith}
 use Rattle.std.specs.Prelude.{slice_get, codes, get_or, true}
-use Rattle.std.specs.declared.option.Option.{Option}
 use Rattle.std.specs.declared.option.Option.TheVariants.{Some, None}
 use Rattle.pg_keyed.specs.Puts.{put_nothing}
-use Rattle.pg_value.specs.declared.row.Row.{Row}
-use Rattle.pg_value.specs.declared.write.Commit.{Commit}
 use Rattle.pg_value.specs.Order.{place_cmp}
 use Rattle.pg_value.specs.Orders.{places}
 use Rattle.pg_value.specs.Writes.{named}
@@ -13,7 +10,7 @@ use Rattle.pg_value.specs.Tables.{Tables, place_of}
 use Rattle.pg_value.specs.Log.{row_given, put, after}
 use Rattle.pg_ast.specs.declared.checked.CheckedQuery.{CheckedQuery}
 use Rattle.pg_ast.specs.OneHop.{one_hop_query}
-use Rattle.pg_ast.specs.Answers.{Answer, column_names}
+use Rattle.pg_ast.specs.Answers.{Answer}
 use Rattle.pg_script.specs.declared.script.Item.{Item}
 use Rattle.pg_script.specs.declared.script.Section.{Section}
 use Rattle.pg_script.specs.declared.script.Script.{Script}
@@ -21,12 +18,12 @@ use Rattle.pg_script.specs.declared.outcome.Outcome.{Outcome}
 use Rattle.pg_script.specs.declared.outcome.Outcome.TheVariants.{Rows}
 use Rattle.pg_script.specs.declared.transcript.SectionOut.{SectionOut}
 use Rattle.pg_script.specs.declared.transcript.Transcript.{Transcript}
-use Rattle.pg_script.specs.Judged.{Judged, answered, Session}
+use Rattle.pg_script.specs.Judged.{Judged, answered}
 use Rattle.pg_script.specs.Session.{printed}
-use Rattle.pg_script.specs.Legal.{no_section, items_of, setup_of, Legal}
+use Rattle.pg_script.specs.Legal.{no_section, items_of, setup_of}
 use Rattle.pgq.specs.declared.setup.Setup.{Setup}
 use Rattle.pgq.specs.declared.hop.HopColumn.{HopColumn}
-use Rattle.pgq.specs.Stepped.{World, outs_of, now, Turns, setup_turns, first_world, is_definition, Stepped, AreSessions}
+use Rattle.pgq.specs.Stepped.{outs_of, now, Turns, setup_turns, first_world, is_definition, Stepped, AreSessions}
 use Rattle.pgq.specs.SteppedLegal.{stepped_legal}
 use Rattle.pgq.specs.Alone.{setup_world, alone_run, alone_transcript}
 use Rattle.pgq.specs.Lines.{IsScript}

@@ -1,7 +1,6 @@
 -- The setup of this stage goes on item by item: three definitions, and then rows.
 use Rattle.std.proofs.Common.{◌≡◌, ℕ, zero, suc, ◌+◌, ◌<◌, ◌≤◌, List, [], ◌∷◌, ◌++◌, length, replicate, refl, ap, sym, subst, ◌∙◌, arith, length-append}
 use Rattle.std.specs.Prelude.{slice_get, ◌==◌, ◌≢◌}
-use Rattle.std.specs.declared.option.Option.{Option}
 use Rattle.std.specs.declared.option.Option.TheVariants.{Some, None}
 use Rattle.pg_keyed.specs.Keyed.{Each, Ascends}
 use Rattle.pg_keyed.specs.Puts.{put_nothing}
@@ -10,24 +9,23 @@ use Rattle.pg_value.specs.declared.write.Commit.{Commit}
 use Rattle.pg_value.specs.Order.{place_cmp, key_cmp}
 use Rattle.pg_value.specs.Orders.{places}
 use Rattle.pg_value.specs.Writes.{named}
-use Rattle.pg_value.specs.Tables.{Stored, Tables, place_of, held_in, stored_at}
+use Rattle.pg_value.specs.Tables.{Tables, place_of, stored_at}
 use Rattle.pg_value.specs.TablesLaws.{stored_in, put_in, stored_at_in, held_other, held_own, put_in_order, key_of, held_ascends}
 use Rattle.pg_value.specs.Log.{put, row_given, after, held, conflict}
 use Rattle.pg_script.specs.declared.script.Item.{Item}
 use Rattle.pg_script.specs.declared.script.Script.{Script}
 use Rattle.pg_script.specs.declared.outcome.Outcome.{Outcome}
 use Rattle.pg_script.specs.declared.outcome.Outcome.TheVariants.{Defined, ChangedAlone}
-use Rattle.pg_script.specs.Judged.{Judged, changed_alone, defined, logged, Session, IsCommit, Ends, Changes, Defines, Fine, Effect, Done}
+use Rattle.pg_script.specs.Judged.{Judged, changed_alone, defined, logged, Defines, Fine}
 use Rattle.pg_script.specs.Session.{raised}
 use Rattle.pg_script.specs.Legal.{items_of}
-use Rattle.pgq.specs.declared.form.TableForm.{TableForm}
 use Rattle.pgq.specs.declared.form.InsertForm.{InsertForm}
 use Rattle.pgq.specs.declared.setup.Setup.{Setup}
 use Rattle.pgq.specs.Stepped.{World, outs_of, now, Turn, Turns, first_world}
 use Rattle.pgq.specs.Alone.{setup_world, setup_begins, setup_turn_alone, setup_turn_defining, setup_more}
-use Rattle.pgq.specs.Language.{Catalog, nothing, language, reads, defines, resolves, affects, row_write, with_table, OfTable, OfGraph, start_of, Differ, IsNewGraph}
+use Rattle.pgq.specs.Language.{Catalog, nothing, language, reads, resolves, row_write, with_table, OfTable, OfGraph, start_of, Differ, IsNewGraph}
 use Rattle.pgq.specs.Hop.{Holds}
-use Rattle.pgq.specs.Setup.{IsSetup, catalog_of, two_tables, entry_of, most_writes, GoesTo, IsAdded, IsPlaced, HasInserted}
+use Rattle.pgq.specs.Setup.{IsSetup, catalog_of, two_tables, entry_of, most_writes, GoesTo, IsPlaced, HasInserted}
 use Rattle.pgq.proofs.LogOfOnes.{after_more, held_more, no_conflict}
 
 -- AN INSERT

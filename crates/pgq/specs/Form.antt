@@ -1,11 +1,11 @@
 -- The statements of this stage, each as the whole list of its tokens.
-use Rattle.std.specs.Prelude.{ℕ, ◌≡◌, ◌+◌, ◌-◌, ◌*◌, ◌≤◌, ◌||◌, Bool, true, false, List, [], ◌∷◌, ◌++◌, map, length, codes}
+use Rattle.std.specs.Prelude.{ℕ, ◌≡◌, ◌+◌, ◌-◌, ◌*◌, ◌≤◌, ◌||◌, Bool, false, List, [], ◌∷◌, ◌++◌, map, length, codes}
 use Rattle.std.specs.Str.{bytes_eq}
 use Rattle.std.specs.List.{list_any, flat_map}
 use Rattle.pg_keyed.specs.Keyed.{Each}
 use Rattle.pg_lex.specs.declared.token.Token.{Token}
 use Rattle.pg_lex.specs.declared.token.TokenKind.{TokenKind}
-use Rattle.pg_lex.specs.declared.token.TokenKind.TheVariants.{Word, Quoted, Number, Literal, Symbol, End, Bad}
+use Rattle.pg_lex.specs.declared.token.TokenKind.TheVariants.{Word, Number, Symbol, End}
 use Rattle.pgq.specs.declared.form.TableForm.{TableForm}
 use Rattle.pgq.specs.declared.form.GraphForm.{GraphForm}
 use Rattle.pgq.specs.declared.form.NumberForm.{NumberForm}

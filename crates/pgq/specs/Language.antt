@@ -1,5 +1,5 @@
 -- What the statements of this stage mean: how they are read, and what the catalog, a change and a query make of them.
-use Rattle.std.specs.Prelude.{ℕ, pos, ◌≡◌, ◌≢◌, ◌+◌, ◌-◌, ◌≤◌, ◌<◌, ◌^◌, true, false, List, [], ◌∷◌, ◌++◌, map, length, take, drop, slice_get, position}
+use Rattle.std.specs.Prelude.{ℕ, pos, ◌≡◌, ◌≢◌, ◌-◌, ◌≤◌, ◌<◌, ◌^◌, true, false, List, [], ◌∷◌, ◌++◌, map, length, take, drop, slice_get, position}
 use Rattle.std.specs.declared.option.Option.{Option}
 use Rattle.std.specs.declared.option.Option.TheVariants.{Some, None}
 use Rattle.std.specs.List.{AllZip}
@@ -8,7 +8,6 @@ use Rattle.pg_keyed.specs.Keyed.{Each}
 use Rattle.pg_value.specs.declared.value.Kind.TheVariants as kind
 use Rattle.pg_value.specs.declared.value.Value.{Value}
 use Rattle.pg_value.specs.declared.value.Value.TheVariants.{Int}
-use Rattle.pg_value.specs.declared.row.Row.{Row}
 use Rattle.pg_value.specs.declared.shape.ColumnShape.{ColumnShape}
 use Rattle.pg_value.specs.declared.shape.TableShape.{TableShape}
 use Rattle.pg_value.specs.declared.shape.TableSet.{TableSet}
@@ -27,7 +26,7 @@ use Rattle.pg_ast.specs.OneHop.{one_hop_query}
 use Rattle.pg_ast.specs.Answers.{Answer, column_names}
 use Rattle.pg_script.specs.declared.script.Item.{Item}
 use Rattle.pg_script.specs.declared.script.Item.TheVariants.{Sql, After}
-use Rattle.pg_script.specs.Judged.{Reading, Unread, Begins, Commits, RollsBack, Defines, Changes, Asks, Waits, Ruling, Faulty, Fine, Effect, Stopped, Done, Judges}
+use Rattle.pg_script.specs.Judged.{Reading, Unread, Begins, Commits, RollsBack, Defines, Changes, Asks, Waits, Ruling, Fine, Effect, Done, Judges}
 use Rattle.pgq.specs.declared.form.TableForm.{TableForm}
 use Rattle.pgq.specs.declared.form.GraphForm.{GraphForm}
 use Rattle.pgq.specs.declared.form.NumberForm.{NumberForm}

@@ -333,6 +333,13 @@ mod tests {
     use super::*;
     use std::test::Fail;
 
+    fn read(alloc: Global, text: &str) -> Result<Script, Unread> {
+        if text.len() > 9999 {
+            return Err(Unread::Memory);
+        }
+        read_script(alloc, text.as_bytes())
+    }
+
     /// The items of both texts, each as `FROM-TO`.
     fn places(alloc: Global, script: &Script) -> Result<String, AllocError> {
         let mut out = String::new(alloc);
@@ -373,15 +380,13 @@ mod tests {
             ),
         ];
         for (text, want) in accepted {
-            match read_script(alloc, text.as_bytes()) {
+            match read(alloc, text) {
                 Ok(script) => {
-                    assert!(rt; script.text.as_str() == text, "the text of {text}");
-                    assert!(rt; script.has_setup, "the setup of {text}");
-                    assert!(rt; script.order.is_empty(), "the order of {text}");
-                    assert!(rt;
-                        places(alloc, &script)?.as_str() == want,
-                        "the items of {text}"
-                    );
+                    let found = places(alloc, &script)?;
+                    assert_eq!(rt; found.as_str(), want);
+                    assert_eq!(rt; script.text.as_str(), text);
+                    assert_eq!(rt; script.has_setup, true);
+                    assert_eq!(rt; script.order.len(), 0);
                 }
                 Err(_) => assert!(rt; false, "refused: {text}"),
             }
@@ -419,7 +424,7 @@ mod tests {
             "@setup\nA;\n@session a\n'--';\n",
         ];
         for text in refused {
-            match read_script(alloc, text.as_bytes()) {
+            match read(alloc, text) {
                 Ok(_) => assert!(rt; false, "accepted: {text}"),
                 Err(unread) => assert!(rt; unread == Unread::Form, "for want of memory: {text}"),
             }

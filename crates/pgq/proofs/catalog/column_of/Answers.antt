@@ -1,4 +1,3 @@
-use Rattle.std.proofs.Common.{sym, ◌∙◌}
 use Rattle.pgq.proofs.Positions.{found}
 use Rattle.pgq.proofs.catalog.column_of.Goals as goal
 

@@ -1,4 +1,3 @@
-use Rattle.std.proofs.Common.{sym}
 use Rattle.pgq.proofs.SetupLaws.{begun}
 use Rattle.pgq.proofs.setup.begin.Goals as goal
 

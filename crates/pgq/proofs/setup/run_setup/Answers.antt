@@ -1,4 +1,4 @@
-use Rattle.std.proofs.Common.{◌≡◌, ◌+◌, ◌<◌, ◌≤◌, length, ap, sym, ◌∙◌, arith, length-append}
+use Rattle.std.proofs.Common.{◌+◌, ◌<◌, length, ap, ◌∙◌, arith}
 use Rattle.std.specs.Prelude.{slice_get}
 use Rattle.pgq.proofs.SetupLaws.{inserted, vertices_ascend, edges_ascend, one_more_outcome}
 use Rattle.pgq.proofs.setup.run_setup.Goals as goal

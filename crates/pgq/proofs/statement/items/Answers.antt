@@ -1,6 +1,5 @@
-use Rattle.std.proofs.Common.{◌≡◌, ◌<◌, List, [], ◌∷◌, ◌++◌, length, sym, subst, arith, length-append}
+use Rattle.std.proofs.Common.{◌≡◌, ◌<◌, [], ◌∷◌, ◌++◌, length, sym, subst, arith, length-append}
 use Rattle.pg_keyed.specs.Keyed.{Each}
-use Rattle.pgq.specs.declared.form.ColumnForm.{ColumnForm}
 use Rattle.pgq.specs.Form.{kinds, AreColumnNames, listed, column_tokens, more_item}
 use Rattle.pgq.proofs.Listed.{one_more, each_more}
 use Rattle.pgq.proofs.statement.items.Goals as goal
