@@ -1,5 +1,8 @@
 -- A label expression as plain data, and which labels of a table meet it (ISO/IEC 9075-16:2023, label expression).
-use Rattle.std.specs.Prelude.{ℕ, ◌≡◌, Bool, true, not, ◌&&◌, ◌||◌, List}
+use Rattle.std.specs.Prelude.{ℕ, ◌≡◌, ◌↔◌, Bool, true, not, ◌&&◌, ◌||◌, List, Contains}
+use Rattle.std.specs.Int.{bit_at}
+use Rattle.pg_value.specs.declared.shape.TableNo.{TableNo}
+use Rattle.pg_value.specs.declared.shape.TableSet.{TableSet}
 use Rattle.std.proofs.Common.{refl, ap, ◌∙◌}
 use Rattle.std.specs.List.{list_any}
 use Rattle.std.specs.Str.{bytes_eq}
@@ -54,3 +57,7 @@ admits labels (Named n) = has_label labels n.text
 admits labels (NotL x) = not (admits labels x)
 admits labels (AndL x y) = admits labels x && admits labels y
 admits labels (OrL x y) = admits labels x || admits labels y
+
+-- the set of those tables of one kind, vertex tables or edge tables of a graph, whose labels meet the label expression
+abbrev pub IsLabelSet : List TableNo → (TableNo → List (List ℕ)) → LabelTree → TableSet → Type 0
+IsLabelSet kind labels x set = (t : TableNo) → ((bit_at set.0 t.0 ≡ 1) ↔ (Contains kind t × (admits (labels t) x ≡ true)))

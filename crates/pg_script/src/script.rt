@@ -9,7 +9,7 @@ pub enum Item {
     After { section: u32, n: u32 },
 }
 
-/// A section of a script: its name, and its items in order. The setup's name is empty.
+/// A section of a script: its name, and its items in order. The setup's name is `setup`.
 #[derive(Debug, Drop)]
 pub struct Section {
     pub name: Text,

@@ -118,6 +118,19 @@ pub data Reply : Type 0 where
   Installed : Reply
   Stale : (base : ℕ) → Reply
   Done : Reply
+  Refused : Reply
+
+-- whether an event may come
+abbrev pub CanCome : Shapes → Core → Event → Type 0
+CanCome shapes c (Pin seat) = (seat < length c.pins) × (pin_of c seat ≡ None)
+CanCome shapes c (Release seat) = (seat < length c.pins) × IsNotBuilding c seat
+CanCome shapes c (Commits w) = (w.session < length c.pins) × (w.writes.list ≡ [] → ⊥) × FitWrites shapes w.writes.list × (w.from ≤ length c.log)
+CanCome shapes c (BeginFold seat) = (seat < length c.pins) × (pin_of c seat ≡ None)
+CanCome shapes c Install = is_some c.build ≡ true
+CanCome shapes c Abandon = is_some c.build ≡ true
+CanCome shapes c (Mark n) = (n < length c.counts) × (get_or c.ended n false ≡ false) × (get_or c.counts n 0 + 1 < 2 ^ 32)
+CanCome shapes c (EndSession n) = n < length c.ended
+CanCome shapes c Stop = Unit {0}
 
 -- how the core answers a commit: conflict first, then a full log, else it is taken
 abbrev pub CommitAnswers : ℕ → Core → Commit → Reply → Core → Type 0
@@ -133,31 +146,31 @@ CommitAnswers limit old commit Stopped new = ⊥
 CommitAnswers limit old commit Installed new = ⊥
 CommitAnswers limit old commit (Stale base) new = ⊥
 CommitAnswers limit old commit Done new = ⊥
+CommitAnswers limit old commit Refused new = ⊥
 
--- One step of the core: an event whose condition holds, its reply, and the core after it. What is not named stays.
+-- One step of the core: an event, its reply, and the core after it. What is not named stays. An event that may not come is refused and changes nothing.
 pub data Step (shapes : Shapes) (limit : ℕ) (old : Core) (event : Event) (reply : Reply) (new : Core) : Type 0 where
-  pins : (seat : ℕ) → event ≡ Pin seat → seat < length old.pins → pin_of old seat ≡ None
+  refuses : (CanCome shapes old event → ⊥) → reply ≡ Refused → new ≡ old → Step shapes limit old event reply new
+  pins : (seat : ℕ) → event ≡ Pin seat → CanCome shapes old event
       → reply ≡ Pinned (length old.log) old.base → new ≡ after_pin old seat → Step shapes limit old event reply new
-  releases : (seat : ℕ) → event ≡ Release seat → seat < length old.pins → IsNotBuilding old seat
+  releases : (seat : ℕ) → event ≡ Release seat → CanCome shapes old event
       → reply ≡ Released (is_some (pin_of old seat)) → new ≡ after_release old seat → Step shapes limit old event reply new
-  commits : (commit : Commit) → event ≡ Commits commit → (commit.writes.list ≡ [] → ⊥) → FitWrites shapes commit.writes.list → commit.from ≤ length old.log
+  commits : (commit : Commit) → event ≡ Commits commit → CanCome shapes old event
       → CommitAnswers limit old commit reply new → Step shapes limit old event reply new
-  fold_stopped : (seat : ℕ) → event ≡ BeginFold seat → seat < length old.pins → pin_of old seat ≡ None → old.stopped ≡ true
+  fold_stopped : (seat : ℕ) → event ≡ BeginFold seat → CanCome shapes old event → old.stopped ≡ true
       → reply ≡ Stopped → new ≡ old → Step shapes limit old event reply new
-  fold_not_yet : (seat : ℕ) → event ≡ BeginFold seat → seat < length old.pins → pin_of old seat ≡ None → old.stopped ≡ false
-      → ((length old.log == old.base) || is_some old.build) ≡ true
+  fold_not_yet : (seat : ℕ) → event ≡ BeginFold seat → CanCome shapes old event → old.stopped ≡ false → ((length old.log == old.base) || is_some old.build) ≡ true
       → reply ≡ NotYet → new ≡ old → Step shapes limit old event reply new
-  fold_begins : (seat : ℕ) → event ≡ BeginFold seat → seat < length old.pins → pin_of old seat ≡ None → old.stopped ≡ false
-      → (length old.log ≡ old.base → ⊥) → old.build ≡ None
+  fold_begins : (seat : ℕ) → event ≡ BeginFold seat → CanCome shapes old event → old.stopped ≡ false → (length old.log ≡ old.base → ⊥) → old.build ≡ None
       → reply ≡ Job (length old.log) → new ≡ after_fold old seat → Step shapes limit old event reply new
   install_stale : (b : Build) → event ≡ Install → old.build ≡ Some b → (old.base ≡ b.base → ⊥)
       → reply ≡ Stale old.base → new ≡ after_abandon old b → Step shapes limit old event reply new
   installs : (b : Build) → event ≡ Install → old.build ≡ Some b → old.base ≡ b.base
       → reply ≡ Installed → new ≡ after_install old b → Step shapes limit old event reply new
   abandons : (b : Build) → event ≡ Abandon → old.build ≡ Some b → reply ≡ Done → new ≡ after_abandon old b → Step shapes limit old event reply new
-  marks : (session : ℕ) → event ≡ Mark session → session < length old.counts → get_or old.ended session false ≡ false → get_or old.counts session 0 + 1 < 2 ^ 32
+  marks : (session : ℕ) → event ≡ Mark session → CanCome shapes old event
       → reply ≡ Done → new ≡ after_mark old session → Step shapes limit old event reply new
-  ends : (session : ℕ) → event ≡ EndSession session → session < length old.ended
+  ends : (session : ℕ) → event ≡ EndSession session → CanCome shapes old event
       → reply ≡ Done → new ≡ record old { ended = slice_set old.ended session true } → Step shapes limit old event reply new
   stops : event ≡ Stop → reply ≡ Done → new ≡ record old { stopped = true } → Step shapes limit old event reply new
 

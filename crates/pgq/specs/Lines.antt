@@ -1,4 +1,4 @@
--- The script of this stage: a line `@setup`, statements, a line `@session NAME`, statements. Nothing else begins with `@`, and no comment stands.
+-- The script of this stage: a line `@setup`, statements, a line `@session NAME`, statements. No other `@` stands, and no comment.
 use Rattle.std.specs.Prelude.{ℕ, ◌≡◌, ◌≢◌, ◌+◌, Bool, true, false, ◌==◌, ◌&&◌, ◌||◌, nat_le, List, [], ◌∷◌, ◌++◌, length, codes}
 use Rattle.std.specs.List.{list_all}
 use Rattle.pg_keyed.specs.Keyed.{Each}
@@ -39,7 +39,7 @@ AreItems at text (After section n ∷ items) = ⊥
 abbrev pub is_blank : ℕ → Bool
 is_blank b = (b == 32) || (b == 9) || (b == 13)
 
--- an upper- or lower-case matter: names of sessions have lower-case letters, digits and `_`
+-- lower-case letters; names of sessions have them, digits and `_`
 abbrev pub is_lower : ℕ → Bool
 is_lower b = nat_le 97 b && nat_le b 122
 
@@ -71,7 +71,7 @@ pub record IsScript (bytes : List ℕ) (script : Script) : Type 0 where
   pub blank : Each (λ b. is_blank b ≡ true) blanks
   pub blank_too : Each (λ b. is_blank b ≡ true) more_blanks
   pub named : IsSessionName name
-  -- no other line is a section's
+  -- no `@` stands in the texts, so no other line is a section's
   pub setup_free : Each (λ b. b ≢ 64) setup
   pub session_free : Each (λ b. b ≢ 64) session
   pub no_comment : has_dashes 0 bytes ≡ false
