@@ -1,0 +1,13 @@
+pub mod Pattern
+pub mod Reading
+pub mod Rule
+pub mod Words
+pub mod Sets
+pub mod Kit
+pub mod Parses
+pub mod Look
+pub mod More
+pub mod TokenLaws
+pub mod GrammarNames
+pub mod ReadNames
+pub mod NameLaws
