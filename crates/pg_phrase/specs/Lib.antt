@@ -11,3 +11,7 @@ pub mod TokenLaws
 pub mod GrammarNames
 pub mod ReadNames
 pub mod NameLaws
+pub mod Counting
+pub mod GrammarLabels
+pub mod ReadLabels
+pub mod LabelLaws

@@ -10,3 +10,15 @@ opening = S (codes "(")
 
 abbrev pub close : Pattern
 close = S (codes ")")
+
+abbrev pub percent : Pattern
+percent = S (codes "%")
+
+abbrev pub exclaim : Pattern
+exclaim = S (codes "!")
+
+abbrev pub ampersand : Pattern
+ampersand = S (codes "&")
+
+abbrev pub bar : Pattern
+bar = S (codes "|")
