@@ -31,9 +31,6 @@ p >>= f = λ i. and_then (p i) f
 abbrev pub pure : {A : Type 0} → A → Parser A
 pure x = λ i. Ok (x, i)
 
-abbrev pub refuse : {A : Type 0} → Parser A
-refuse = λ i. Err i
-
 -- the next token passes the test
 abbrev pub sees_if : (Token → Bool) → Tokens → Bool
 sees_if f [] = false

@@ -48,10 +48,6 @@ times (suc n) step x = Then (step x) (times n step)
 abbrev pub repeat : {A : Type 0} → (A → Rule A) → A → Rule A
 repeat step x y ts = (n : ℕ) × times n step x y ts
 
--- { .. } with a list of what was read
-abbrev pub many : {A : Type 0} → Rule A → Rule (List A)
-many P = repeat (λ xs. P >>= λ x. give (xs ++ x ∷ [])) []
-
 -- P { sep P }
 abbrev pub separated : {A : Type 0} → Pattern → Rule A → Rule (List A)
 separated sep P = P >>= λ x. repeat (λ xs. the sep >>= λ _. P >>= λ y. give (xs ++ y ∷ [])) (x ∷ [])

@@ -140,12 +140,7 @@ fn next_intersection(
 
 #[cycle(labels)]
 #[tactic(auto, unfolding(crate::specs::Reading::turns))]
-fn union(
-    alloc: Global,
-    cursor: &mut Cursor<'_>,
-    depth: u8,
-    left: u8,
-) -> Result<CountedLabel, Fault>
+fn union(alloc: Global, cursor: &mut Cursor<'_>, depth: u8, left: u8) -> Result<CountedLabel, Fault>
     ensures { Reads (spec.union (spec.primary depth) left cursor.old) result cursor.new }
 {
     let mut x = intersection(alloc, cursor, depth, left)?;
@@ -160,12 +155,7 @@ fn union(
 
 #[cycle(labels)]
 #[tactic(auto, unfolding(crate::specs::ReadLabels::paren))]
-fn paren(
-    alloc: Global,
-    cursor: &mut Cursor<'_>,
-    depth: u8,
-    left: u8,
-) -> Result<CountedLabel, Fault>
+fn paren(alloc: Global, cursor: &mut Cursor<'_>, depth: u8, left: u8) -> Result<CountedLabel, Fault>
     ensures { Reads (spec.paren (spec.primary depth) left cursor.old) result cursor.new }
 {
     cursor.symbol(b"(")?;

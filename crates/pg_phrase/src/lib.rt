@@ -10,6 +10,8 @@ mod cursor;
 mod fault;
 mod identifiers;
 mod label;
+#[cfg(test)]
+mod tests;
 
 pub use cursor::Cursor;
 pub use fault::Fault;
