@@ -1,0 +1,8 @@
+use Rattle.std.proofs.Common.{◌≡◌, drop, take, map, []}
+use Rattle.std.specs.List.{flat_map}
+use Rattle.pg_catalog.specs.Places.{least, sooner}
+use Rattle.pg_catalog.specs.Define.{too_long_column}
+use Rattle.pg_catalog.proofs.places.too_long_columns.Given as goal
+
+abbrev pub invariant-loop-column : goal.invariant-loop-column
+invariant-loop-column l = sooner l.found (least (flat_map too_long_column (drop l.column-index l.columns))) ≡ least (flat_map too_long_column l.columns)

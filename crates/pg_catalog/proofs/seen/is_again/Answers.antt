@@ -1,0 +1,11 @@
+use Rattle.std.proofs.Common.{◌≡◌, ◌+◌, ◌∷◌, ◌∙◌, drop, drop-cons, arith, rules, map, ap, ℕ, List, Bor}
+use Rattle.std.proofs.lemmas.Grind.{common_steps}
+use Rattle.std.specs.List.{flat_map}
+use Rattle.pg_catalog.proofs.NameSets.{any_mapped, mapped_add}
+use Rattle.pg_catalog.proofs.seen.is_again.Goals as goal
+
+pub returns-in-Ok-clause-again : goal.returns-in-Ok-clause-again
+returns-in-Ok-clause-again c = let e = any_mapped (λ (k : Bor (List ℕ)). k.now) c.args.text.now c.args.seen.now.keys in grind (arith, common_steps)
+
+pub returns-in-Ok-clause-seen : goal.returns-in-Ok-clause-seen
+returns-in-Ok-clause-seen c = ap (map (λ (k : Bor (List ℕ)). k.now)) c.in-Ok.ensures.keys ∙ mapped_add (λ k. k.now) c.args.seen.now.keys c.args.text

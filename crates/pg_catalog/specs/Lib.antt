@@ -1,0 +1,5 @@
+pub mod Places
+pub mod Entries
+pub mod LookUps
+pub mod Define
+pub mod Passes
