@@ -8,6 +8,8 @@ mod fault;
 mod least;
 mod places;
 mod seen;
+#[cfg(test)]
+mod tests;
 
 pub use catalog::Catalog;
 pub use entry::{
