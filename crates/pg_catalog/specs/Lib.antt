@@ -3,3 +3,4 @@ pub mod Entries
 pub mod LookUps
 pub mod Define
 pub mod Passes
+pub mod EntryShapes

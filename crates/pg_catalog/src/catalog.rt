@@ -4,14 +4,16 @@ ghost use Rattle.std.specs.Map.{keys_of};
 ghost use Rattle.std.specs.Option.{option_copied, option_map};
 ghost use Rattle.std.specs.Str.{bytes_eq};
 ghost use Rattle.pg_catalog.specs.Define as define;
+ghost use Rattle.pg_catalog.specs.EntryShapes as shape;
 ghost use Rattle.pg_catalog.specs.LookUps as spec;
 
 use crate::build::{column_place, entry_of};
 use crate::places::{key_mismatch, limit, name_taken, no_column};
+use crate::shapes::{edge_shapes, table_shapes};
 use crate::{DefineFault, GraphEntry, TableEntry};
 use indexmap::IndexMap;
 use pg_ast::TableDef;
-use pg_value::{GraphNo, TableNo, Text};
+use pg_value::{GraphNo, Shapes, TableNo, Text};
 use std::alloc::{AllocError, Global};
 use std::marker::Model;
 
@@ -92,6 +94,16 @@ impl Catalog {
             Some((_, entry)) => name_in(entry, column),
             None => None,
         }
+    }
+
+    /// The shapes of all tables, by their numbers, and of the edge tables of all graphs, in order of definition. Only want of
+    /// memory refuses it.
+    pub fn shapes(&self, alloc: Global) -> Result<Shapes, AllocError>
+        ensures { IfOk result (λ shapes. shapes ≡ shape.shapes self.now) }
+    {
+        let tables = table_shapes(alloc, &self.tables)?;
+        let edges = edge_shapes(alloc, &self.graphs)?;
+        Ok(Shapes { tables, edges })
     }
 
     /// Whether a table or a graph has a name.

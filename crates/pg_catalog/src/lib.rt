@@ -8,6 +8,7 @@ mod fault;
 mod least;
 mod places;
 mod seen;
+mod shapes;
 #[cfg(test)]
 mod tests;
 
