@@ -192,6 +192,11 @@ fn tables_are_judged(rt: HostRuntime) -> Result<(), Fail> {
         Some(true)
     );
     assert_eq!(rt; catalog.column_name(TableNo(3), 0).is_none(), true);
+    let shapes = catalog.shapes(alloc)?;
+    assert_eq!(rt; shapes.tables.len(), 3);
+    assert_eq!(rt; shapes.tables.get(1).map(|t| t.columns.len()), Some(32));
+    assert_eq!(rt; shapes.tables.get(2).map(|t| t.key.len()), Some(4));
+    assert_eq!(rt; shapes.edges.is_empty(), true);
     Ok(())
 }
 
