@@ -26,7 +26,7 @@ fn blank_len(bytes: &[u8]) -> usize
     }
 }
 
-/// The length of all the blanks in front.
+/// The length of all the blanks in front: of white space and comments, up to the first byte that is part of neither.
 pub fn gap_len(bytes: &[u8]) -> usize
     ensures within { result ≤ length bytes.now }
     ensures gap { Gap (take result bytes.now) (drop result bytes.now) }

@@ -4,11 +4,12 @@ use Rattle.std.specs.Prelude.{◌&&◌, if◌then◌else◌, nat_lt}
 use Rattle.std.proofs.lemmas.Bool.{lt-ltb}
 use Rattle.pg_lex.specs.declared.token.Token.{Token}
 use Rattle.pg_ast.specs.declared.pattern.LabelExpr.TheVariants as label
-use Rattle.pg_phrase.specs.declared.label.CountedLabel.{CountedLabel}
-use Rattle.pg_phrase.specs.Reading.{Tokens, Parser, ◌>>=◌, pure, eat, sees, sees_if, guarded}
-use Rattle.pg_phrase.specs.GrammarLabels.{labelled}
+use Rattle.pg_ast.specs.declared.counted.CountedLabel.{CountedLabel}
+use Rattle.pg_phrase.specs.Reading.{Parser, ◌>>=◌, pure, eat, sees, sees_if, guarded}
+use Rattle.pg_ast.specs.Terminals.{Tokens}
+use Rattle.pg_ast.specs.GrammarLabels.{labelled}
 use Rattle.pg_phrase.specs.ReadLabels.{complement, primary, paren, base}
-use Rattle.pg_phrase.specs.Words as word
+use Rattle.pg_ast.specs.Words as word
 
 pub sees_guarded : (ok : Bool) (f : Token → Bool) (l : Tokens) → sees_if (guarded ok f) l ≡ (ok && sees_if f l)
 sees_guarded true f [] = refl

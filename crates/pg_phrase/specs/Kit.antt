@@ -2,8 +2,9 @@
 use Rattle.std.proofs.Common.{◌≡◌, ℕ, zero, suc, ◌≤◌, ◌<◌, Bool, true, false, cond, [], ◌∷◌, ◌++◌, length, Ok, Err, refl, sym, ap, subst, ◌∙◌, append_assoc, arith, inl, inr}
 use Rattle.std.proofs.lemmas.List.{length-append}
 use Rattle.pg_lex.specs.declared.token.Token.{Token}
-use Rattle.pg_phrase.specs.Reading.{Tokens, Outcome, Parser, and_then, pure, ◌>>=◌, sees_if, eat_if, choose_if, turns, loop, guarded}
-use Rattle.pg_phrase.specs.Rule.{Rule, Then, give, one, ◌or◌, times, repeat, only}
+use Rattle.pg_phrase.specs.Reading.{Outcome, Parser, and_then, pure, ◌>>=◌, sees_if, eat_if, choose_if, turns, loop, guarded}
+use Rattle.pg_ast.specs.Terminals.{Tokens}
+use Rattle.pg_ast.specs.Rule.{Rule, Then, give, one, ◌or◌, times, repeat, only}
 
 abbrev pub rest_of : {T : Type 0} → Outcome T → Tokens
 rest_of (Ok x) = x.1

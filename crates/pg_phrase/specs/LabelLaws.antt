@@ -1,27 +1,27 @@
 -- The parsers of label expressions read their rules.
 use Rattle.std.proofs.Common.{ℕ, zero, suc, ◌-◌, false, List, [], ◌∷◌, refl}
 use Rattle.std.specs.Prelude.{codes}
-use Rattle.pg_phrase.specs.declared.label.CountedLabel.{CountedLabel}
-use Rattle.pg_phrase.specs.Pattern.{Pattern, AName}
+use Rattle.pg_ast.specs.declared.counted.CountedLabel.{CountedLabel}
+use Rattle.pg_ast.specs.Terminals.{Terminal, AName}
 use Rattle.pg_phrase.specs.Reading.{Parser}
-use Rattle.pg_phrase.specs.Rule.{Rule}
-use Rattle.pg_phrase.specs.Counting.{allows}
-use Rattle.pg_phrase.specs.GrammarLabels as grammar
+use Rattle.pg_ast.specs.Rule.{Rule}
+use Rattle.pg_ast.specs.Counting.{allows}
+use Rattle.pg_ast.specs.GrammarLabels as grammar
 use Rattle.pg_phrase.specs.ReadLabels as parser
-use Rattle.pg_phrase.specs.Words as word
+use Rattle.pg_ast.specs.Words as word
 use Rattle.pg_phrase.specs.Parses.{Parses, parses-give, parses-then, parses-or, parses-loop-if, parses-first, parses-sized}
 use Rattle.pg_phrase.specs.TokenLaws.{parses-symbol}
 use Rattle.pg_phrase.specs.NameLaws.{parses-name}
 
 -- what a label expression may begin with, without and with an operator
-abbrev pub primary_first : List Pattern
+abbrev pub primary_first : List Terminal
 primary_first = word.opening ∷ word.percent ∷ AName ∷ []
 
-abbrev pub labels_first : List Pattern
+abbrev pub labels_first : List Terminal
 labels_first = word.exclaim ∷ primary_first
 
 -- what a label expression goes on with
-abbrev pub labels_on : List Pattern
+abbrev pub labels_on : List Terminal
 labels_on = word.bar ∷ word.ampersand ∷ []
 
 parses-base : (k : ℕ) → Parses (grammar.base k) (parser.base k) (word.percent ∷ AName ∷ []) [] false

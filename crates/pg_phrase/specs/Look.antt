@@ -1,10 +1,13 @@
 -- A choice by the next two tokens, and a part that may be left out only after some trees.
-use Rattle.std.proofs.Common.{◌≡◌, Bool, true, false, cond, [], ◌∷◌, ◌++◌, Ok, Err, refl, sym, ap, subst, ◌∙◌, inl, inr}
+use Rattle.std.proofs.Common.{◌≡◌, Bool, true, false, cond, List, [], ◌∷◌, ◌++◌, Ok, Err, refl, sym, ap, subst, ◌∙◌, append_assoc, inl, inr}
 use Rattle.std.specs.Prelude.{◌&&◌}
 use Rattle.std.proofs.lemmas.List.{append-nil}
 use Rattle.pg_lex.specs.declared.token.Token.{Token}
-use Rattle.pg_phrase.specs.Reading.{Tokens, Outcome, Parser, sees_if}
-use Rattle.pg_phrase.specs.Rule.{Rule, ◌or◌}
+use Rattle.pg_phrase.specs.Reading.{Outcome, Parser, sees_if}
+use Rattle.pg_ast.specs.Terminals.{Terminal, matches, Tokens}
+use Rattle.pg_ast.specs.Rule.{Rule, Then, ◌or◌, only}
+use Rattle.pg_phrase.specs.Sets.{any, disjoint, disjoint-sound}
+use Rattle.pg_phrase.specs.Parses.{Parses, Begins, Stops-parts, begins-or-left, begins-or-right}
 use Rattle.pg_phrase.specs.Kit.{Exact, Explains, Stops, SameHead, rest_of, with_rest, widen-spelled}
 
 -- the next token passes f, and the one after it g
@@ -115,3 +118,45 @@ exact-two f g P Q e e' k p q hp hq from-p from-q first other sub =
     (keeps-two f g true P p (λ t ts h b. let s = from-p t b in moves-past P e p hp s.0 t s.1 s.2 ts h))
     (keeps-two f g false Q q (λ t ts h b. let s = from-q t b in moves-past Q e' q hq s.0 t s.1 s.2 ts h))
     first other sub
+
+-- each token that meets the pattern begins something of the rule
+abbrev pub BegunBy : {T : Type 0} → Terminal → Rule T → Type 0
+BegunBy a P = (t : Token) → matches a t ≡ true → (x : _) × (u : Tokens) × P x (t ∷ u)
+
+-- nothing of the rule begins with a token that meets a and one that meets b
+abbrev pub NeverTwo : {T : Type 0} → Terminal → Terminal → Rule T → Type 0
+NeverTwo a b P = (t : _) (u w : Tokens) → P t u → sees_two (matches a) (matches b) (u ++ w) ≡ false
+
+-- all of the rule begins so
+abbrev pub AlwaysTwo : {T : Type 0} → Terminal → Terminal → Rule T → Type 0
+AlwaysTwo a b P = (t : _) (u w : Tokens) → P t u → sees_two (matches a) (matches b) (u ++ w) ≡ true
+
+pub parses-two : {T : Type 0} {P Q : Rule T} {p q : Parser T} {f e f' e' : List Terminal} (a b : Terminal) →
+    Parses P p f e false → Parses Q q f' e' false → BegunBy a P → BegunBy a Q → AlwaysTwo a b P → NeverTwo a b Q →
+    Parses (P or Q) (choose_by (sees_two (matches a) (matches b)) p q) (f ++ f') (e ++ e') false
+parses-two {P = P} {Q = Q} {p = p} {q = q} {f = f} {e = e} {f' = f'} {e' = e'} a b hp hq from-p from-q first other = record {
+  exact = exact-two (matches a) (matches b) P Q (any e) (any e') (any (e ++ e')) p q hp.exact hq.exact from-p from-q
+      (λ t u w h s. first t u w h) (λ t u w h s. other t u w h) (λ w s. Stops-parts e e' w s);
+  begins = λ t u h. elim h [
+    | inl k ↦ begins-or-left f f' false u (hp.begins t u k)
+    | inr k ↦ begins-or-right f f' false u (hq.begins t u k)
+  ];
+  inner = λ t u h. elim h [ inl k ↦ hp.inner t u k | inr k ↦ hq.inner t u k ];
+  some = let s = hp.some in record { tree = s.tree; tokens = s.tokens; spelled = inl s.spelled };
+}
+
+pub never-then : {A B : Type 0} {P : Rule A} {Q : A → Rule B} (a b : Terminal) → NeverTwo a b P → NeverTwo a b (Then P Q)
+never-then a b n t u w h = rw (h.parts, append_assoc h.front h.back w) (n h.first h.front (h.back ++ w) h.begins)
+
+pub never-or : {T : Type 0} {P Q : Rule T} (a b : Terminal) → NeverTwo a b P → NeverTwo a b Q → NeverTwo a b (P or Q)
+never-or a b m n t u w h = elim h [ inl k ↦ m t u w k | inr k ↦ n t u w k ]
+
+pub never-only : {T : Type 0} {P : Rule T} (ok : Bool) (a b : Terminal) → NeverTwo a b P → NeverTwo a b (only ok P)
+never-only ok a b n t u w h = n t u w h.1
+
+-- a rule that begins with other tokens
+pub never-apart : {T : Type 0} {P : Rule T} {p : Parser T} {f e : List Terminal} (a b : Terminal) → Parses P p f e false → disjoint f (a ∷ []) ≡ true → NeverTwo a b P
+never-apart {f = f} a b h d t u w k = other u (h.begins t u k) where
+  other : (u : Tokens) → Begins f false u → sees_two (matches a) (matches b) (u ++ w) ≡ false
+  other [] k = absurd cc
+  other (t ∷ u) k = rw (disjoint-sound f (a ∷ []) t d k) refl

@@ -2,34 +2,32 @@
 use Rattle.std.proofs.Common.{◌≡◌, ℕ, Bool, true, false, cond, List, [], ◌∷◌, ◌++◌, Ok, Err, refl, sym, ap, ◌∙◌, inl, inr}
 use Rattle.std.specs.Prelude.{not, ◌&&◌}
 use Rattle.pg_lex.specs.declared.token.Token.{Token}
-use Rattle.pg_phrase.specs.Pattern.{Pattern}
-use Rattle.pg_phrase.specs.Reading.{Tokens, Outcome, Parser, place_of, choose_if, sees_if}
-use Rattle.pg_phrase.specs.Rule.{Rule, ◌or◌, only, Then}
+use Rattle.pg_ast.specs.Terminals.{Terminal, Tokens, place_of}
+use Rattle.pg_phrase.specs.Reading.{Outcome, Parser, choose_if, sees_if}
+use Rattle.pg_ast.specs.Rule.{Rule, ◌or◌, only, Then}
+pub use Rattle.pg_ast.specs.Rule.{at_first}
 use Rattle.pg_phrase.specs.Sets.{any}
 use Rattle.pg_phrase.specs.Kit.{Exact, Explains, Stops, exact-same, exact-wider}
 use Rattle.pg_phrase.specs.Parses.{Parses, Begins, also}
 
 -- ---- the place of the first token
 
-abbrev pub at_first : {T : Type 0} → Rule T → Rule (T × ℕ)
-at_first P y ts = P y.0 ts × (y.1 ≡ place_of ts)
-
-abbrev placed : {T : Type 0} → ℕ → Outcome T → Outcome (T × ℕ)
+abbrev pub placed : {T : Type 0} → ℕ → Outcome T → Outcome (T × ℕ)
 placed n (Ok x) = Ok ((x.0, n), x.1)
 placed n (Err r) = Err r
 
 abbrev pub with_place : {T : Type 0} → Parser T → Parser (T × ℕ)
 with_place p ts = placed (place_of ts) (p ts)
 
-place-front : (f : List Pattern) (u v w : Tokens) → Begins f false u → place_of (u ++ v) ≡ place_of (u ++ w)
+place-front : (f : List Terminal) (u v w : Tokens) → Begins f false u → place_of (u ++ v) ≡ place_of (u ++ w)
 place-front f [] v w b = absurd cc
 place-front f (t ∷ u) v w b = refl
 
-place-of-front : (f : List Pattern) (u v : Tokens) → Begins f false u → place_of u ≡ place_of (u ++ v)
+place-of-front : (f : List Terminal) (u v : Tokens) → Begins f false u → place_of u ≡ place_of (u ++ v)
 place-of-front f [] v b = absurd cc
 place-of-front f (t ∷ u) v b = refl
 
-explain-placed : {T : Type 0} (P : Rule T) (p : Parser T) (f : List Pattern) (ts : Tokens) (o : Outcome T) → ((t : T) (u : Tokens) → P t u → Begins f false u) → Explains P p ts o →
+explain-placed : {T : Type 0} (P : Rule T) (p : Parser T) (f : List Terminal) (ts : Tokens) (o : Outcome T) → ((t : T) (u : Tokens) → P t u → Begins f false u) → Explains P p ts o →
     Explains (at_first P) (with_place p) ts (placed (place_of ts) o)
 explain-placed P p f ts (Ok x) begins h =
     let b = begins x.0 h.front h.spelled in
@@ -47,7 +45,7 @@ explain-placed P p f ts (Err r) begins h = record {
   local = λ more same. ap (λ o. placed (place_of (h.front ++ more)) o) (h.local more same);
 }
 
-pub parses-placed : {T : Type 0} {P : Rule T} {p : Parser T} {f e : List Pattern} → Parses P p f e false → Parses (at_first P) (with_place p) f e false
+pub parses-placed : {T : Type 0} {P : Rule T} {p : Parser T} {f e : List Terminal} → Parses P p f e false → Parses (at_first P) (with_place p) f e false
 parses-placed {P = P} {p = p} {f = f} h = record {
   exact = record {
     explains = λ ts. explain-placed P p f ts (p ts) h.begins (h.exact.explains ts);
@@ -67,7 +65,7 @@ required-same : {T : Type 0} (f : Token → Bool) (p q : Parser T) (b : Bool) (x
 required-same f p q true x y = refl
 required-same f p q false x y = refl
 
-pub parses-required : {T : Type 0} {P Q : Rule T} {p q : Parser T} {f e f' e' : List Pattern} {n' : Bool} (ok : Bool) →
+pub parses-required : {T : Type 0} {P Q : Rule T} {p q : Parser T} {f e f' e' : List Terminal} {n' : Bool} (ok : Bool) →
     Parses P p f e false → Parses Q q f' e' n' → ((w : Tokens) → Stops (any (e ++ also n' e' f)) w → Stops (any e) w) →
     Parses (P or Q) (choose_if (any f) p q) (f ++ f') (e ++ also n' e' f) n' →
     Exact (P or only ok Q) (any (e ++ also n' e' f)) (choose_unless ok (any f) p q)

@@ -1,9 +1,9 @@
 -- The parsers of names read their rules.
 use Rattle.std.proofs.Common.{false, [], ◌∷◌, refl}
-use Rattle.pg_phrase.specs.Pattern.{AName}
-use Rattle.pg_phrase.specs.GrammarNames as grammar
+use Rattle.pg_ast.specs.Terminals.{AName}
+use Rattle.pg_ast.specs.GrammarNames as grammar
 use Rattle.pg_phrase.specs.ReadNames as parser
-use Rattle.pg_phrase.specs.Words as word
+use Rattle.pg_ast.specs.Words as word
 use Rattle.pg_phrase.specs.Parses.{Parses, parses-the, parses-give, parses-then}
 use Rattle.pg_phrase.specs.TokenLaws.{inner-name, parses-symbol, separated-parses}
 

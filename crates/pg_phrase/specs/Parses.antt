@@ -1,10 +1,10 @@
 -- A parser of a rule, with the tokens at which the rule begins and goes on.
-use Rattle.std.proofs.Common.{◌≡◌, ℕ, zero, suc, Bool, true, false, List, [], ◌∷◌, ◌++◌, refl, inl, inr}
+use Rattle.std.proofs.Common.{◌≡◌, ℕ, zero, suc, Bool, true, false, List, [], ◌∷◌, ◌++◌, Ok, Err, refl, sym, ap, ◌∙◌, inl, inr}
 use Rattle.std.specs.Prelude.{◌&&◌}
 use Rattle.pg_lex.specs.declared.token.Token.{Token}
-use Rattle.pg_phrase.specs.Pattern.{Pattern, matches, is_ordinary}
-use Rattle.pg_phrase.specs.Reading.{Tokens, Inner, Parser, pure, eat, sees_if, choose_if, loop, guarded, ◌>>=◌}
-use Rattle.pg_phrase.specs.Rule.{Rule, Then, give, the, ◌or◌, times, repeat, only}
+use Rattle.pg_ast.specs.Terminals.{Terminal, matches, is_ordinary, Tokens, Inner}
+use Rattle.pg_phrase.specs.Reading.{Outcome, Parser, pure, eat, sees_if, choose_if, loop, guarded, ◌>>=◌}
+use Rattle.pg_ast.specs.Rule.{Rule, Then, give, the, ◌or◌, times, repeat, only}
 use Rattle.pg_phrase.specs.Sets.{any, any-parts, any-left, any-right, disjoint, disjoint-sound, within, within-none, within-some}
 use Rattle.pg_phrase.specs.Kit.{Stops, Exact, exact-give, exact-one, exact-then, exact-choose, exact-loop, Some, explain-none, exact-wider, exact-same, widen-spelled}
 
@@ -12,20 +12,29 @@ Inner-append : (u v : Tokens) → Inner u → Inner v → Inner (u ++ v)
 Inner-append [] v a b = b
 Inner-append (t ∷ u) v a b = (a.0, Inner-append u v a.1 b)
 
-abbrev pub Begins : List Pattern → Bool → Tokens → Type 0
+abbrev pub Begins : List Terminal → Bool → Tokens → Type 0
 Begins first empty [] = empty ≡ true
 Begins first empty (t ∷ ts) = any first t ≡ true
 
-pub record Parses {T : Type 0} (P : Rule T) (p : Parser T) (first goes_on : List Pattern) (empty : Bool) : Type 0 where
+pub record Parses {T : Type 0} (P : Rule T) (p : Parser T) (first goes_on : List Terminal) (empty : Bool) : Type 0 where
   -- p reads P, where no token of goes_on follows
   pub exact : Exact P (any goes_on) p
   pub begins : (t : T) (u : Tokens) → P t u → Begins first empty u
   pub inner : (t : T) (u : Tokens) → P t u → Inner u
   pub some : Some P
 
-Stops-parts : (a b : List Pattern) (w : Tokens) → Stops (any (a ++ b)) w → Stops (any a) w × Stops (any b) w
+pub Stops-parts : (a b : List Terminal) (w : Tokens) → Stops (any (a ++ b)) w → Stops (any a) w × Stops (any b) w
 Stops-parts a b [] s = (tt, tt)
 Stops-parts a b (t ∷ w) s = any-parts a b t s
+
+tree_or : {T : Type 0} → T → Outcome T → T
+tree_or d (Ok x) = x.0
+tree_or d (Err r) = d
+
+-- a list of tokens is at most one tree
+pub one_tree : {T : Type 0} {P : Rule T} {p : Parser T} {f e : List Terminal} {n : Bool} → Parses P p f e n → (x y : T) (u : Tokens) → P x u → P y u → x ≡ y
+unfolding tree_or
+one_tree h x y u a b = ap (tree_or x) (sym (h.exact.complete x u [] a tt) ∙ h.exact.complete y u [] b tt)
 
 -- ---- give
 
@@ -40,12 +49,12 @@ parses-give x = record {
 -- ---- a token
 
 -- a token that meets the pattern, and that the pattern is met by no End or Bad
-pub record IsInner (p : Pattern) : Type 0 where
+pub record IsInner (p : Terminal) : Type 0 where
   pub token : Token
   pub meets : matches p token ≡ true
   pub inner : (t : Token) → matches p t ≡ true → is_ordinary t.kind ≡ true
 
-pub parses-the : (p : Pattern) → IsInner p → Parses (the p) (eat p) (p ∷ []) [] false
+pub parses-the : (p : Terminal) → IsInner p → Parses (the p) (eat p) (p ∷ []) [] false
 parses-the p k = record {
   exact = exact-one (matches p) (any []) (record { tree = k.token; tokens = k.token ∷ []; spelled = (refl, k.meets) });
   begins = λ t u h. rw (h.0) h.1;
@@ -55,11 +64,11 @@ parses-the p k = record {
 
 -- ---- one after the other
 
-abbrev pub also : Bool → List Pattern → List Pattern → List Pattern
+abbrev pub also : Bool → List Terminal → List Terminal → List Terminal
 also true a b = a ++ b
 also false a b = a
 
-begins-then : (f f' : List Pattern) (n n' : Bool) (u v : Tokens) → Begins f n u → Begins f' n' v → Begins (also n f f') (n && n') (u ++ v)
+begins-then : (f f' : List Terminal) (n n' : Bool) (u v : Tokens) → Begins f n u → Begins f' n' v → Begins (also n f f') (n && n') (u ++ v)
 begins-then f f' true n' [] [] a b = b
 begins-then f f' true n' [] (t ∷ v) a b = any-right f f' t b
 begins-then f f' true n' (t ∷ u) v a b = any-left f f' t a
@@ -67,16 +76,16 @@ begins-then f f' false n' [] v a b = absurd cc
 begins-then f f' false n' (t ∷ u) v a b = a
 
 -- what Q begins with, or what follows it where it may be empty, doesn't go on with P
-apart-then : (f' e e' : List Pattern) (n' : Bool) (v w : Tokens) → disjoint f' e ≡ true → Begins f' n' v → Stops (any (also n' e' e)) w → Stops (any e) (v ++ w)
+apart-then : (f' e e' : List Terminal) (n' : Bool) (v w : Tokens) → disjoint f' e ≡ true → Begins f' n' v → Stops (any (also n' e' e)) w → Stops (any e) (v ++ w)
 apart-then f' e e' true [] w d b s = (Stops-parts e' e w s).1
 apart-then f' e e' false [] w d b s = absurd cc
 apart-then f' e e' n' (t ∷ v) w d b s = disjoint-sound f' e t d b
 
-sub-then : (e e' : List Pattern) (n' : Bool) (w : Tokens) → Stops (any (also n' e' e)) w → Stops (any e') w
+sub-then : (e e' : List Terminal) (n' : Bool) (w : Tokens) → Stops (any (also n' e' e)) w → Stops (any e') w
 sub-then e e' true w s = (Stops-parts e' e w s).0
 sub-then e e' false w s = s
 
-pub parses-then : {A B : Type 0} {P : Rule A} {Q : A → Rule B} {p : Parser A} {q : A → Parser B} {f e f' e' : List Pattern} {n n' : Bool} →
+pub parses-then : {A B : Type 0} {P : Rule A} {Q : A → Rule B} {p : Parser A} {q : A → Parser B} {f e f' e' : List Terminal} {n n' : Bool} →
     Parses P p f e n → ((x : A) → Parses (Q x) (q x) f' e' n') → disjoint f' e ≡ true →
     Parses (Then P Q) (p >>= q) (also n f f') (also n' e' e) (n && n')
 parses-then {P = P} {Q = Q} {p = p} {q = q} {f = f} {e = e} {f' = f'} {e' = e'} {n = n} {n' = n'} hp hq d = record {
@@ -93,25 +102,25 @@ parses-then {P = P} {Q = Q} {p = p} {q = q} {f = f} {e = e} {f' = f'} {e' = e'} 
 
 -- ---- a choice
 
-begins-sees : (f : List Pattern) (u w : Tokens) → Begins f false u → sees_if (any f) (u ++ w) ≡ true
+begins-sees : (f : List Terminal) (u w : Tokens) → Begins f false u → sees_if (any f) (u ++ w) ≡ true
 begins-sees f [] w b = absurd cc
 begins-sees f (t ∷ u) w b = b
 
-other-sees : (f f' e' : List Pattern) (n' : Bool) (u w : Tokens) → disjoint f' f ≡ true → Begins f' n' u → Stops (any (also n' e' f)) w → sees_if (any f) (u ++ w) ≡ false
+other-sees : (f f' e' : List Terminal) (n' : Bool) (u w : Tokens) → disjoint f' f ≡ true → Begins f' n' u → Stops (any (also n' e' f)) w → sees_if (any f) (u ++ w) ≡ false
 other-sees f f' e' true [] [] d b s = refl
 other-sees f f' e' true [] (t ∷ w) d b s = (any-parts e' f t s).1
 other-sees f f' e' false [] w d b s = absurd cc
 other-sees f f' e' n' (t ∷ u) w d b s = disjoint-sound f' f t d b
 
-begins-or-left : (f f' : List Pattern) (n' : Bool) (u : Tokens) → Begins f false u → Begins (f ++ f') n' u
+pub begins-or-left : (f f' : List Terminal) (n' : Bool) (u : Tokens) → Begins f false u → Begins (f ++ f') n' u
 begins-or-left f f' n' [] b = absurd cc
 begins-or-left f f' n' (t ∷ u) b = any-left f f' t b
 
-begins-or-right : (f f' : List Pattern) (n' : Bool) (u : Tokens) → Begins f' n' u → Begins (f ++ f') n' u
+pub begins-or-right : (f f' : List Terminal) (n' : Bool) (u : Tokens) → Begins f' n' u → Begins (f ++ f') n' u
 begins-or-right f f' n' [] b = b
 begins-or-right f f' n' (t ∷ u) b = any-right f f' t b
 
-pub parses-or : {T : Type 0} {P Q : Rule T} {p q : Parser T} {f e f' e' : List Pattern} {n' : Bool} →
+pub parses-or : {T : Type 0} {P Q : Rule T} {p q : Parser T} {f e f' e' : List Terminal} {n' : Bool} →
     Parses P p f e false → Parses Q q f' e' n' → disjoint f' f ≡ true →
     Parses (P or Q) (choose_if (any f) p q) (f ++ f') (e ++ also n' e' f) n'
 parses-or {P = P} {Q = Q} {p = p} {q = q} {f = f} {e = e} {f' = f'} {e' = e'} {n' = n'} hp hq d = record {
@@ -133,7 +142,7 @@ guarded-true : {T : Type 0} (f : Token → Bool) (p q : Parser T) (l : Tokens) �
 guarded-true f p q [] = refl
 guarded-true f p q (t ∷ l) = refl
 
-pub guarded-or : {T : Type 0} {P Q : Rule T} {p q : Parser T} {f e f' e' : List Pattern} {n' : Bool} (ok : Bool) →
+pub guarded-or : {T : Type 0} {P Q : Rule T} {p q : Parser T} {f e f' e' : List Terminal} {n' : Bool} (ok : Bool) →
     Parses P p f e false → Parses Q q f' e' n' → disjoint f' f ≡ true → Parses (only ok P or Q) (choose_if (guarded ok (any f)) p q) (f ++ f') (e ++ also n' e' f) n'
 guarded-or {P = P} {Q = Q} {p = p} {q = q} {f = f} {e = e} {f' = f'} {e' = e'} {n' = n'} true hp hq d =
     let h = parses-or hp hq d in record {
@@ -153,15 +162,15 @@ guarded-or {P = P} {Q = Q} {p = p} {q = q} {f = f} {e = e} {f' = f'} {e' = e'} {
 }
 
 -- more tokens than the rule begins with
-pub parses-first : {T : Type 0} {P : Rule T} {p : Parser T} {f e : List Pattern} {n : Bool} (g : List Pattern) → Parses P p f e n → Parses P p (g ++ f) e n
+pub parses-first : {T : Type 0} {P : Rule T} {p : Parser T} {f e : List Terminal} {n : Bool} (g : List Terminal) → Parses P p f e n → Parses P p (g ++ f) e n
 parses-first {f = f} {n = n} g h = record { exact = h.exact; begins = λ t u k. begins-or-right g f n u (h.begins t u k); inner = h.inner; some = h.some }
 
 -- more tokens than the rule goes on with
-pub parses-goes-on : {T : Type 0} {P : Rule T} {p : Parser T} {f e : List Pattern} {n : Bool} (g : List Pattern) → Parses P p f e n → Parses P p f (g ++ e) n
+pub parses-goes-on : {T : Type 0} {P : Rule T} {p : Parser T} {f e : List Terminal} {n : Bool} (g : List Terminal) → Parses P p f e n → Parses P p f (g ++ e) n
 parses-goes-on {e = e} g h = record { exact = exact-wider (any e) (any (g ++ e)) (λ w s. (Stops-parts g e w s).1) h.exact; begins = h.begins; inner = h.inner; some = h.some }
 
 -- the sets written otherwise, or larger
-pub parses-sized : {T : Type 0} {P : Rule T} {p : Parser T} {f e : List Pattern} {n : Bool} (f' e' : List Pattern) → Parses P p f e n → within f f' ≡ true → within e e' ≡ true → Parses P p f' e' n
+pub parses-sized : {T : Type 0} {P : Rule T} {p : Parser T} {f e : List Terminal} {n : Bool} (f' e' : List Terminal) → Parses P p f e n → within f f' ≡ true → within e e' ≡ true → Parses P p f' e' n
 parses-sized {P = P} {f = f} {e = e} {n = n} f' e' h a b = record {
   exact = exact-wider (any e) (any e') (λ w s. fewer w s) h.exact;
   begins = λ t u k. more u (h.begins t u k);
@@ -178,11 +187,11 @@ parses-sized {P = P} {f = f} {e = e} {n = n} f' e' h a b = record {
 
 -- ---- any number of times
 
-begins-front : (f : List Pattern) (n : Bool) (u v : Tokens) → Begins f false u → Begins f n (u ++ v)
+begins-front : (f : List Terminal) (n : Bool) (u v : Tokens) → Begins f false u → Begins f n (u ++ v)
 begins-front f n [] v b = absurd cc
 begins-front f n (t ∷ u) v b = b
 
-module _ {A : Type 0} (S : A → Rule A) (step : A → Parser A) (f e : List Pattern) where
+module _ {A : Type 0} (S : A → Rule A) (step : A → Parser A) (f e : List Terminal) where
   begins-times : ((x : A) → Parses (S x) (step x) f e false) → (n : ℕ) (x y : A) (u : Tokens) → times n S x y u → Begins f true u
   begins-times h zero x y u k = rw (k.1) refl
   begins-times h (suc n) x y u k = rw (k.parts) (begins-front f true k.front k.back ((h x).begins k.first k.front k.begins))

@@ -3,13 +3,13 @@ use Rattle.std.specs.Prelude.{ℕ, zero, suc, ◌-◌, Bool}
 use Rattle.pg_lex.specs.declared.token.Token.{Token}
 use Rattle.pg_ast.specs.declared.pattern.LabelExpr.{LabelExpr}
 use Rattle.pg_ast.specs.declared.pattern.LabelExpr.TheVariants as label
-use Rattle.pg_phrase.specs.declared.label.CountedLabel.{CountedLabel}
-use Rattle.pg_phrase.specs.Pattern.{matches}
+use Rattle.pg_ast.specs.declared.counted.CountedLabel.{CountedLabel}
+use Rattle.pg_ast.specs.Terminals.{matches}
 use Rattle.pg_phrase.specs.Reading.{Parser, ◌>>=◌, pure, eat, choose, guarded, loop}
-use Rattle.pg_phrase.specs.Counting.{allows}
+use Rattle.pg_ast.specs.Counting.{allows}
 use Rattle.pg_phrase.specs.ReadNames.{name}
-use Rattle.pg_phrase.specs.GrammarLabels.{labelled}
-use Rattle.pg_phrase.specs.Words as word
+use Rattle.pg_ast.specs.GrammarLabels.{labelled}
+use Rattle.pg_ast.specs.Words as word
 
 unfoldable pub base : ℕ → Parser CountedLabel
 base k =

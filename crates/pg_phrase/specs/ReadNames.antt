@@ -1,9 +1,9 @@
 -- Reading names, in the order of the code.
 use Rattle.std.specs.Prelude.{List}
 use Rattle.pg_ast.specs.declared.expr.Name.{Name}
-use Rattle.pg_phrase.specs.Pattern.{AName, text_of}
+use Rattle.pg_ast.specs.Terminals.{AName, text_of}
 use Rattle.pg_phrase.specs.Reading.{Parser, ◌>>=◌, pure, eat, separated}
-use Rattle.pg_phrase.specs.Words as word
+use Rattle.pg_ast.specs.Words as word
 
 unfoldable pub name : Parser Name
 name = do

@@ -1,18 +1,11 @@
 -- Parsers on token lists: what was read and the tokens after it, or the tokens from the fault on.
-use Rattle.std.specs.Prelude.{◌≡◌, ℕ, zero, suc, Bool, true, false, if◌then◌else◌, ◌&&◌, ◌||◌, List, [], ◌∷◌, ◌++◌, length, Result, Ok, Err}
+use Rattle.std.specs.Prelude.{◌≡◌, ℕ, zero, suc, Bool, false, if◌then◌else◌, ◌&&◌, ◌||◌, List, [], ◌∷◌, ◌++◌, length, Result, Ok, Err}
 use Rattle.std.specs.Borrow.{Bor}
 use Rattle.pg_lex.specs.declared.token.Token.{Token}
 use Rattle.pg_phrase.specs.declared.fault.Fault.{Fault}
 use Rattle.pg_phrase.specs.declared.fault.Fault.TheVariants.{Syntax, Memory}
-use Rattle.pg_phrase.specs.Pattern.{Pattern, matches, is_ordinary}
-
-abbrev pub Tokens : Type 0
-Tokens = List Token
-
--- no token of the list is End or Bad
-abbrev pub Inner : Tokens → Type 0
-Inner [] = Unit {0}
-Inner (t ∷ ts) = (is_ordinary t.kind ≡ true) × Inner ts
+use Rattle.pg_ast.specs.Terminals.{Tokens, Terminal, matches}
+pub use Rattle.pg_ast.specs.Terminals.{place_of}
 
 abbrev pub Outcome : Type 0 → Type 0
 Outcome A = Result (A × Tokens) Tokens
@@ -36,10 +29,10 @@ abbrev pub sees_if : (Token → Bool) → Tokens → Bool
 sees_if f [] = false
 sees_if f (t ∷ ts) = f t
 
-abbrev pub sees : Pattern → Tokens → Bool
+abbrev pub sees : Terminal → Tokens → Bool
 sees p = sees_if (matches p)
 
-abbrev pub sees_either : Pattern → Pattern → Token → Bool
+abbrev pub sees_either : Terminal → Terminal → Token → Bool
 sees_either p q t = matches p t || matches q t
 
 abbrev pub choose_if : {A : Type 0} → (Token → Bool) → Parser A → Parser A → Parser A
@@ -48,14 +41,14 @@ choose_if f p q = λ i. if sees_if f i then p i else q i
 abbrev pub guarded : Bool → (Token → Bool) → Token → Bool
 guarded ok f t = ok && f t
 
-abbrev pub choose : {A : Type 0} → Pattern → Parser A → Parser A → Parser A
+abbrev pub choose : {A : Type 0} → Terminal → Parser A → Parser A → Parser A
 choose t p q = choose_if (matches t) p q
 
 abbrev pub eat_if : (Token → Bool) → Parser Token
 eat_if f [] = Err []
 eat_if f (t ∷ ts) = if f t then Ok (t, ts) else Err (t ∷ ts)
 
-abbrev pub eat : Pattern → Parser Token
+abbrev pub eat : Terminal → Parser Token
 eat p = eat_if (matches p)
 
 -- What a function returned, with the cursor after it, is what reading gives, unless memory ran out.
@@ -79,20 +72,15 @@ turns (suc n) f step x = choose_if (f x) (step x >>= turns n f step) (pure x)
 abbrev pub loop : {A : Type 0} → (A → Token → Bool) → (A → Parser A) → A → Parser A
 loop f step x = λ i. turns (length i) f step x i
 
-abbrev pub next_item : {A : Type 0} → Pattern → Parser A → List A → Parser (List A)
+abbrev pub next_item : {A : Type 0} → Terminal → Parser A → List A → Parser (List A)
 next_item sep item found = do
   _ ← eat sep
   x ← item
   pure (found ++ x ∷ [])
 
 -- one or more, with a separator between
-abbrev pub separated : {A : Type 0} → Pattern → Parser A → Parser (List A)
+abbrev pub separated : {A : Type 0} → Terminal → Parser A → Parser (List A)
 separated sep item = item >>= λ x. loop (λ _. matches sep) (next_item sep item) (x ∷ [])
-
--- where the next token begins
-abbrev pub place_of : Tokens → ℕ
-place_of [] = 0
-place_of (t ∷ ts) = t.from
 
 -- that value, unless memory ran out
 abbrev pub OfMemory : {A : Type 0} → Result A Fault → A → Type 0

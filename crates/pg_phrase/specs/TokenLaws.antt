@@ -2,10 +2,10 @@
 use Rattle.std.proofs.Common.{◌≡◌, ℕ, true, false, List, [], ◌∷◌, ◌++◌, refl, ap, ◌∙◌}
 use Rattle.pg_lex.specs.declared.token.TokenKind.{TokenKind}
 use Rattle.pg_lex.specs.declared.token.TokenKind.TheVariants.{Word, Quoted, Number, Literal, Symbol, End, Bad}
-use Rattle.pg_phrase.specs.Pattern.{Pattern, Exactly, AName, ANumber, AText, W, S, fits, matches, is_name, is_ordinary}
+use Rattle.pg_ast.specs.Terminals.{Terminal, Exactly, AName, ANumber, AText, W, S, fits, matches, is_name, is_ordinary}
 use Rattle.pg_phrase.specs.Reading.{Parser, eat, separated, next_item}
-use Rattle.pg_phrase.specs.Rule.{Rule, the, give}
-use Rattle.pg_phrase.specs.Rule as rule
+use Rattle.pg_ast.specs.Rule.{Rule, the, give}
+use Rattle.pg_ast.specs.Rule as rule
 use Rattle.pg_phrase.specs.Sets.{kind-same, kind-self, disjoint, disjoint-none}
 use Rattle.pg_phrase.specs.Parses.{Parses, IsInner, parses-the, parses-give, parses-then, parses-loop}
 
@@ -61,7 +61,7 @@ parses-symbol w = parses-the (S w) (inner-exactly (Symbol w) refl)
 
 -- ---- lists
 
-pub separated-parses : {T : Type 0} {P : Rule T} {p : Parser T} {f e : List Pattern} (w : List ℕ) → Parses P p f e false → disjoint (S w ∷ []) e ≡ true → Parses (rule.separated (S w) P) (separated (S w) p) f ((S w ∷ e) ++ e) false
+pub separated-parses : {T : Type 0} {P : Rule T} {p : Parser T} {f e : List Terminal} (w : List ℕ) → Parses P p f e false → disjoint (S w ∷ []) e ≡ true → Parses (rule.separated (S w) P) (separated (S w) p) f ((S w ∷ e) ++ e) false
 separated-parses {P = P} {p = p} {f = f} {e = e} w h d =
     parses-then h
     (λ x. parses-loop (λ xs. rule.◌>>=◌ (the (S w)) (λ _. rule.◌>>=◌ P (λ y. give (xs ++ y ∷ [])))) (next_item (S w) p) (S w ∷ []) e

@@ -1,8 +1,9 @@
 ghost use Rattle.std.specs.Prelude.{◌≡◌, length};
 ghost use Rattle.pg_lex.specs.declared.token.TokenKind.TheVariants.{End};
 ghost use Rattle.pg_phrase.specs.Reading.{ReadsRef, sees, sees_if, sees_either, eat, place_of};
-ghost use Rattle.pg_phrase.specs.Pattern.{Exactly, W, S, AName, ANumber, AText};
-ghost use Rattle.pg_phrase.specs.Pattern as spec;
+ghost use Rattle.pg_phrase.specs.Look.{sees_two};
+ghost use Rattle.pg_ast.specs.Terminals.{Exactly, W, S, AName, ANumber, AText, matches};
+ghost use Rattle.pg_ast.specs.Terminals as spec;
 
 use crate::Fault;
 use pg_lex::{Token, TokenKind};
@@ -18,14 +19,14 @@ pub struct Cursor<'a> {
 }
 
 impl<'a> Model for Cursor<'a> {
-    ghost use Rattle.pg_phrase.specs.Reading.{Tokens};
+    ghost use Rattle.pg_ast.specs.Terminals.{Tokens};
 
     ghost Value = { Tokens };
 
     ghost view = { λ c. c.left.now };
 }
 
-#[tactic(auto, unfolding(crate::specs::Pattern::is_among))]
+#[tactic(auto, unfolding(pg_ast::specs::Terminals::is_among))]
 fn is_reserved_all_to_match(word: &[u8]) -> bool
     ensures { result ≡ spec.is_among spec.reserved_all_to_match word.now }
 {
@@ -45,7 +46,7 @@ fn is_reserved_all_to_match(word: &[u8]) -> bool
         || word == b"MATCH".as_slice()
 }
 
-#[tactic(auto, unfolding(crate::specs::Pattern::is_among))]
+#[tactic(auto, unfolding(pg_ast::specs::Terminals::is_among))]
 fn is_reserved_max_to_where(word: &[u8]) -> bool
     ensures { result ≡ spec.is_among spec.reserved_max_to_where word.now }
 {
@@ -96,7 +97,7 @@ impl<'a> Cursor<'a> {
         }
     }
 
-    #[tactic(auto, unfolding(crate::specs::Pattern::matches))]
+    #[tactic(auto, unfolding(pg_ast::specs::Terminals::matches))]
     pub fn sees_word(&self, word: &[u8]) -> bool
         ensures { result ≡ sees (W word.now) self.now }
     {
@@ -109,7 +110,7 @@ impl<'a> Cursor<'a> {
         }
     }
 
-    #[tactic(auto, unfolding(crate::specs::Pattern::matches))]
+    #[tactic(auto, unfolding(pg_ast::specs::Terminals::matches))]
     pub fn sees_either_word(&self, a: &[u8], b: &[u8]) -> bool
         ensures { result ≡ sees_if (sees_either (W a.now) (W b.now)) self.now }
     {
@@ -122,7 +123,7 @@ impl<'a> Cursor<'a> {
         }
     }
 
-    #[tactic(auto, unfolding(crate::specs::Pattern::matches))]
+    #[tactic(auto, unfolding(pg_ast::specs::Terminals::matches))]
     pub fn sees_symbol(&self, symbol: &[u8]) -> bool
         ensures { result ≡ sees (S symbol.now) self.now }
     {
@@ -135,7 +136,7 @@ impl<'a> Cursor<'a> {
         }
     }
 
-    #[tactic(auto, unfolding(crate::specs::Pattern::matches))]
+    #[tactic(auto, unfolding(pg_ast::specs::Terminals::matches))]
     pub fn sees_either_symbol(&self, a: &[u8], b: &[u8]) -> bool
         ensures { result ≡ sees_if (sees_either (S a.now) (S b.now)) self.now }
     {
@@ -149,7 +150,7 @@ impl<'a> Cursor<'a> {
     }
 
     /// Whether a name comes: a delimited identifier, or a regular one that is not reserved, of at most 128 bytes.
-    #[tactic(auto, unfolding(crate::specs::Pattern::matches))]
+    #[tactic(auto, unfolding(pg_ast::specs::Terminals::matches))]
     pub fn sees_name(&self) -> bool
         ensures { result ≡ sees AName self.now }
     {
@@ -163,7 +164,17 @@ impl<'a> Cursor<'a> {
         }
     }
 
-    #[tactic(auto, unfolding(crate::specs::Pattern::matches))]
+    /// Whether a name comes and then this symbol.
+    pub fn sees_name_then(&self, symbol: &[u8]) -> bool
+        ensures { result ≡ sees_two (matches AName) (matches (S symbol.now)) self.now }
+    {
+        match self.left {
+            [] => false,
+            [_, rest @ ..] => self.sees_name() && Cursor::new(rest).sees_symbol(symbol),
+        }
+    }
+
+    #[tactic(auto, unfolding(pg_ast::specs::Terminals::matches))]
     pub fn sees_number(&self) -> bool
         ensures { result ≡ sees ANumber self.now }
     {
@@ -176,7 +187,7 @@ impl<'a> Cursor<'a> {
         }
     }
 
-    #[tactic(auto, unfolding(crate::specs::Pattern::matches))]
+    #[tactic(auto, unfolding(pg_ast::specs::Terminals::matches))]
     pub fn sees_text(&self) -> bool
         ensures { result ≡ sees AText self.now }
     {
@@ -189,7 +200,7 @@ impl<'a> Cursor<'a> {
         }
     }
 
-    #[tactic(auto, unfolding(crate::specs::Pattern::matches))]
+    #[tactic(auto, unfolding(pg_ast::specs::Terminals::matches))]
     pub fn sees_end(&self) -> bool
         ensures { result ≡ sees (Exactly End) self.now }
     {

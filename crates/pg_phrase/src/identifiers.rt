@@ -1,5 +1,5 @@
 ghost use Rattle.std.specs.Prelude.{◌≡◌, IfOk};
-ghost use Rattle.pg_phrase.specs.Pattern.{text_of};
+ghost use Rattle.pg_ast.specs.Terminals.{text_of};
 ghost use Rattle.pg_phrase.specs.Reading.{Reads};
 ghost use Rattle.pg_phrase.specs.ReadNames as spec;
 
@@ -10,7 +10,7 @@ use pg_value::{List, Text};
 use std::alloc::{AllocError, Global};
 
 // A copy of a token's text, which is empty at End and Bad.
-fn copy_text(alloc: Global, token: &Token) -> Result<Text, AllocError>
+pub(crate) fn copy_text(alloc: Global, token: &Token) -> Result<Text, AllocError>
     ensures { IfOk result (λ text. text ≡ text_of token.now) }
 {
     match &token.kind {

@@ -5,16 +5,9 @@ ghost use Rattle.pg_phrase.specs.Reading.{Reads, OfMemory};
 ghost use Rattle.pg_phrase.specs.ReadLabels as spec;
 
 use crate::{Cursor, Fault, name};
-use pg_ast::LabelExpr;
+use pg_ast::{CountedLabel, LabelExpr};
 use sqlite_items::Boxed;
 use std::alloc::Global;
-
-// A label expression, and how many operators may still come.
-#[derive(Drop)]
-pub struct CountedLabel {
-    pub label: LabelExpr,
-    pub left: u8,
-}
 
 fn not_of(alloc: Global, arg: LabelExpr) -> Result<LabelExpr, Fault>
     ensures { OfMemory result (Not arg) }

@@ -1,19 +1,28 @@
-//! Reads the parts that several statements share, exactly by their grammar: the kit of rules, of parsers on lists of
-//! tokens and of laws that join the two, a cursor over tokens, names, lists of names and label expressions.
+//! Reads the parts that several statements share, exactly by their grammar: the kit of parsers on lists of tokens and of
+//! laws that join them to rules, a cursor over tokens, names, lists of names, label expressions and expressions.
 //!
-//! A rule of `specs/` says which tree a list of tokens is. Each function here gives what its parser on lists gives, and
+//! A rule of `pg_ast` says which tree a list of tokens is. Each function here gives what its parser on lists gives, and
 //! a law says of that parser that it reads the rule: that tree and no other, and otherwise it stops exactly at the first
 //! token that nothing of the rule continues.
 #![tactic(auto)]
 
+mod build;
 mod cursor;
+mod expr;
 mod fault;
 mod identifiers;
 mod label;
+mod laws;
+mod literal;
+mod number;
+mod operand;
+mod operator;
 #[cfg(test)]
 mod tests;
 
 pub use cursor::Cursor;
+pub use expr::{counted_whole, whole};
 pub use fault::Fault;
 pub use identifiers::{name, names};
 pub use label::label_expr;
+pub use laws::{label_limits, one_label_expr, one_list_of_names, one_whole, whole_limits};

@@ -1,9 +1,9 @@
 use Rattle.std.proofs.Common.{rules, arith}
 use Rattle.std.proofs.lemmas.Grind.{common_steps}
-use Rattle.pg_phrase.specs.Pattern.{matches}
+use Rattle.pg_ast.specs.Terminals.{matches}
 use Rattle.pg_phrase.specs.Reading.{turns, next_item}
 use Rattle.pg_phrase.specs.ReadNames.{name}
-use Rattle.pg_phrase.specs.Words.{comma}
+use Rattle.pg_ast.specs.Words.{comma}
 use Rattle.pg_phrase.proofs.Turns.{one_more}
 use Rattle.pg_phrase.proofs.identifiers.name_list.Goals as goal
 

@@ -1,8 +1,8 @@
 use Rattle.std.proofs.Common.{◌≡◌, ◌-◌}
 use Rattle.pg_phrase.specs.Reading.{turns, next_item}
-use Rattle.pg_phrase.specs.Pattern.{matches}
+use Rattle.pg_ast.specs.Terminals.{matches}
 use Rattle.pg_phrase.specs.ReadNames.{name, name_list}
-use Rattle.pg_phrase.specs.Words.{comma}
+use Rattle.pg_ast.specs.Words.{comma}
 use Rattle.pg_phrase.proofs.identifiers.name_list.Given as goal
 
 abbrev pub invariant-loop-turn : goal.invariant-loop-turn

@@ -1,10 +1,10 @@
 use Rattle.std.proofs.Common.{rules, arith}
 use Rattle.std.specs.Prelude.{nat_lt}
 use Rattle.std.proofs.lemmas.Grind.{common_steps}
-use Rattle.pg_phrase.specs.Pattern.{matches}
+use Rattle.pg_ast.specs.Terminals.{matches}
 use Rattle.pg_phrase.specs.Reading.{turns}
 use Rattle.pg_phrase.specs.ReadLabels.{primary, next_complement, next_intersection, goes_on_and, goes_on_or}
-use Rattle.pg_phrase.specs.Words as word
+use Rattle.pg_ast.specs.Words as word
 use Rattle.pg_phrase.proofs.Turns.{one_more}
 use Rattle.pg_phrase.proofs.LabelSteps.{sees_guarded, complement_step, primary_step}
 use Rattle.pg_phrase.proofs.label.+labels.Goals as goal

@@ -1,8 +1,7 @@
 -- Rules of a grammar: which trees a list of tokens is.
 use Rattle.std.specs.Prelude.{◌≡◌, ℕ, zero, suc, Bool, true, List, [], ◌∷◌, ◌++◌, ◌⊎◌}
 use Rattle.pg_lex.specs.declared.token.Token.{Token}
-use Rattle.pg_phrase.specs.Pattern.{Pattern, matches}
-use Rattle.pg_phrase.specs.Reading.{Tokens}
+use Rattle.pg_ast.specs.Terminals.{Terminal, matches, Tokens, place_of}
 
 abbrev pub Rule : Type 0 → Type 1
 Rule T = T → Tokens → Type 0
@@ -28,7 +27,7 @@ give x y ts = (y ≡ x) × (ts ≡ [])
 abbrev pub one : (Token → Bool) → Rule Token
 one f t ts = (ts ≡ t ∷ []) × (f t ≡ true)
 
-abbrev pub the : Pattern → Rule Token
+abbrev pub the : Terminal → Rule Token
 the p = one (matches p)
 
 infixr 5 ◌or◌
@@ -49,5 +48,9 @@ abbrev pub repeat : {A : Type 0} → (A → Rule A) → A → Rule A
 repeat step x y ts = (n : ℕ) × times n step x y ts
 
 -- P { sep P }
-abbrev pub separated : {A : Type 0} → Pattern → Rule A → Rule (List A)
+abbrev pub separated : {A : Type 0} → Terminal → Rule A → Rule (List A)
 separated sep P = P >>= λ x. repeat (λ xs. the sep >>= λ _. P >>= λ y. give (xs ++ y ∷ [])) (x ∷ [])
+
+-- P, with the place of its first token
+abbrev pub at_first : {A : Type 0} → Rule A → Rule (A × ℕ)
+at_first P y ts = P y.0 ts × (y.1 ≡ place_of ts)

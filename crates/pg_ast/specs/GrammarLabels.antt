@@ -1,14 +1,13 @@
 -- Label expressions (ISO/IEC 9075-16:2023): which tree a list of tokens is. Each rule takes how many of the operators
 -- `|`, `&` and `!` may still come, and gives the tree with how many may come after it.
-use Rattle.std.specs.Prelude.{ℕ, zero, suc, ◌-◌, codes}
+use Rattle.std.specs.Prelude.{ℕ, zero, suc, ◌-◌}
 use Rattle.pg_ast.specs.declared.pattern.LabelExpr.{LabelExpr}
 use Rattle.pg_ast.specs.declared.pattern.LabelExpr.TheVariants as label
-use Rattle.pg_phrase.specs.declared.label.CountedLabel.{CountedLabel}
-use Rattle.pg_phrase.specs.Pattern.{Pattern, S}
-use Rattle.pg_phrase.specs.Rule.{Rule, ◌>>=◌, give, the, ◌or◌, repeat, only}
-use Rattle.pg_phrase.specs.Counting.{allows}
-use Rattle.pg_phrase.specs.GrammarNames.{name}
-use Rattle.pg_phrase.specs.Words as word
+use Rattle.pg_ast.specs.declared.counted.CountedLabel.{CountedLabel}
+use Rattle.pg_ast.specs.Rule.{Rule, ◌>>=◌, give, the, ◌or◌, repeat, only}
+use Rattle.pg_ast.specs.Counting.{allows}
+use Rattle.pg_ast.specs.GrammarNames.{name}
+use Rattle.pg_ast.specs.Words as word
 
 abbrev pub labelled : LabelExpr → ℕ → CountedLabel
 labelled l k = record { label = l; left = k }

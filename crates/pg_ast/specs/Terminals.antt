@@ -1,22 +1,25 @@
--- What the grammar asks of one token.
-use Rattle.std.specs.Prelude.{ℕ, Bool, true, false, not, ◌&&◌, ◌||◌, List, [], ◌∷◌, length, nat_le, codes}
+-- Lists of tokens, and what the grammar asks of one token.
+use Rattle.std.specs.Prelude.{ℕ, ◌≡◌, Bool, true, false, not, ◌&&◌, ◌||◌, List, [], ◌∷◌, length, nat_le, codes, ◌++◌}
 use Rattle.std.specs.List.{list_any}
 use Rattle.std.specs.Str.{bytes_eq}
 use Rattle.pg_lex.specs.declared.token.Token.{Token}
 use Rattle.pg_lex.specs.declared.token.TokenKind.{TokenKind}
 use Rattle.pg_lex.specs.declared.token.TokenKind.TheVariants.{Word, Quoted, Number, Literal, Symbol, End, Bad}
 
-pub data Pattern : Type 0 where
-  Exactly : (kind : TokenKind) → Pattern
-  AName : Pattern
-  ANumber : Pattern
-  AText : Pattern
+abbrev pub Tokens : Type 0
+Tokens = List Token
+
+pub data Terminal : Type 0 where
+  Exactly : (kind : TokenKind) → Terminal
+  AName : Terminal
+  ANumber : Terminal
+  AText : Terminal
 
 -- a word, a symbol, the end
-abbrev pub W : List ℕ → Pattern
+abbrev pub W : List ℕ → Terminal
 W w = Exactly (Word w)
 
-abbrev pub S : List ℕ → Pattern
+abbrev pub S : List ℕ → Terminal
 S w = Exactly (Symbol w)
 
 -- the words that are no names unless they are written in double quotes
@@ -62,13 +65,13 @@ abbrev pub is_text : TokenKind → Bool
 is_text (Literal w) = true
 is_text _ = false
 
-abbrev pub fits : Pattern → TokenKind → Bool
+abbrev pub fits : Terminal → TokenKind → Bool
 fits (Exactly k) j = kind_eq j k
 fits AName j = is_name j
 fits ANumber j = is_number j
 fits AText j = is_text j
 
-unfoldable pub matches : Pattern → Token → Bool
+unfoldable pub matches : Terminal → Token → Bool
 matches p t = fits p t.kind
 
 -- the tokens that may stand within a statement
@@ -76,6 +79,19 @@ abbrev pub is_ordinary : TokenKind → Bool
 is_ordinary End = false
 is_ordinary Bad = false
 is_ordinary _ = true
+
+-- no token of the list is End or Bad
+abbrev pub Inner : Tokens → Type 0
+Inner [] = Unit {0}
+Inner (t ∷ ts) = (is_ordinary t.kind ≡ true) × Inner ts
+
+-- the last token, and no other, is End or Bad
+pub record IsEnded (tokens : Tokens) : Type 0 where
+  pub front : Tokens
+  pub last : Token
+  pub parts : tokens ≡ front ++ last ∷ []
+  pub ends : is_ordinary last.kind ≡ false
+  pub inner : Inner front
 
 -- the text of a token
 abbrev pub text_of_kind : TokenKind → List ℕ
@@ -88,3 +104,8 @@ text_of_kind _ = []
 
 abbrev pub text_of : Token → List ℕ
 text_of t = text_of_kind t.kind
+
+-- where the first of these tokens begins
+abbrev pub place_of : Tokens → ℕ
+place_of [] = 0
+place_of (t ∷ ts) = t.from

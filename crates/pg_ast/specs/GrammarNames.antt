@@ -1,9 +1,9 @@
 -- Names and lists of names: which tree a list of tokens is.
 use Rattle.std.specs.Prelude.{List}
 use Rattle.pg_ast.specs.declared.expr.Name.{Name}
-use Rattle.pg_phrase.specs.Pattern.{AName, text_of}
-use Rattle.pg_phrase.specs.Rule.{Rule, ◌>>=◌, give, the, separated}
-use Rattle.pg_phrase.specs.Words as word
+use Rattle.pg_ast.specs.Terminals.{AName, text_of}
+use Rattle.pg_ast.specs.Rule.{Rule, ◌>>=◌, give, the, separated}
+use Rattle.pg_ast.specs.Words as word
 
 -- name
 abbrev pub name : Rule Name

@@ -1,0 +1,10 @@
+use Rattle.std.proofs.Common.{ℕ, ◌≡◌, ◌<◌, ◌^◌, drop}
+use Rattle.pg_ast.specs.GrammarExprs.{number_after}
+use Rattle.pg_phrase.proofs.number.number_of.Given as goal
+
+pub record Reached (read expected number : ℕ) : Type 0 where
+  pub same : read ≡ expected
+  pub below : number < 2 ^ 127
+
+abbrev pub invariant-loop-digit : goal.invariant-loop-digit
+invariant-loop-digit l = Reached (number_after 0 l.digits) (number_after l.number (drop l.digit-index l.digits)) l.number
