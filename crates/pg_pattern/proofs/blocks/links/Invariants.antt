@@ -1,0 +1,8 @@
+use Rattle.std.proofs.Common.{◌≡◌, ◌-◌}
+use Rattle.pg_phrase.specs.Reading.{turns}
+use Rattle.pg_phrase.specs.Sets.{any}
+use Rattle.pg_pattern.specs.ReadPatterns.{links, link, edge_first}
+use Rattle.pg_pattern.proofs.blocks.links.Given as goal
+
+abbrev pub invariant-loop-turn : goal.invariant-loop-turn
+invariant-loop-turn l = links l.fn.chain l.fn.cursor ≡ turns (l._turn-end - l._turn) (λ _. any edge_first) link l.found l.cursor

@@ -1,0 +1,13 @@
+use Rattle.std.proofs.Common.{rules, arith}
+use Rattle.std.proofs.lemmas.Grind.{common_steps}
+use Rattle.pg_phrase.specs.Reading.{turns}
+use Rattle.pg_phrase.specs.Sets.{any}
+use Rattle.pg_pattern.specs.ReadPatterns.{next_block, parts_on}
+use Rattle.pg_pattern.proofs.Turns.{one_more}
+use Rattle.pg_pattern.proofs.paths.parts.Goals as goal
+
+pub loop-turn-preserved : goal.loop-turn-preserved
+unfolding turns
+loop-turn-preserved c =
+    let e = one_more (λ n. turns n (λ _. any parts_on) next_block c.loop-turn.found c.loop-turn.cursor) _ c.loop-turn._turn c.loop-turn-test.true c.loop-turn.invariant in
+    first_of (search rules, grind (arith, common_steps))

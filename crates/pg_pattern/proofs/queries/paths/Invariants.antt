@@ -1,0 +1,10 @@
+use Rattle.std.proofs.Common.{◌≡◌, ◌-◌}
+use Rattle.pg_phrase.specs.Reading.{turns, next_item}
+use Rattle.pg_ast.specs.Terminals.{matches}
+use Rattle.pg_ast.specs.Words.{comma}
+use Rattle.pg_pattern.specs.ReadPatterns.{path}
+use Rattle.pg_pattern.specs.ReadQueries.{paths}
+use Rattle.pg_pattern.proofs.queries.paths.Given as goal
+
+abbrev pub invariant-loop-turn : goal.invariant-loop-turn
+invariant-loop-turn l = paths l.fn.cursor ≡ turns (l._turn-end - l._turn) (λ _. matches comma) (next_item comma path) l.found l.cursor

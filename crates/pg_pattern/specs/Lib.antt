@@ -1,0 +1,9 @@
+pub mod ReadPatterns
+pub mod RuleLaws
+pub mod FactoredPatterns
+pub mod PatternLaws
+pub mod ReadQueries
+pub mod ColumnLaws
+pub mod QueryLaws
+pub mod Answers
+pub mod Lexed
