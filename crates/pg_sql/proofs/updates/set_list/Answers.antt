@@ -1,0 +1,14 @@
+use Rattle.std.proofs.Common.{rules, arith}
+use Rattle.std.proofs.lemmas.Grind.{common_steps}
+use Rattle.pg_ast.specs.Terminals.{matches}
+use Rattle.pg_ast.specs.Words.{comma}
+use Rattle.pg_phrase.specs.Reading.{turns, next_item}
+use Rattle.pg_sql.specs.ReadChanges.{set_item}
+use Rattle.pg_sql.proofs.Turns.{one_more}
+use Rattle.pg_sql.proofs.updates.set_list.Goals as goal
+
+pub loop-turn-preserved : goal.loop-turn-preserved
+unfolding turns
+loop-turn-preserved c =
+    let e = one_more (λ n. turns n (λ _. matches comma) (next_item comma set_item) c.loop-turn.found c.loop-turn.cursor) _ c.loop-turn._turn c.loop-turn-test.true c.loop-turn.invariant in
+    first_of (search rules, grind (arith, common_steps))
