@@ -1,2 +1,6 @@
 pub mod NameSets
-pub mod Tables
+pub mod Loops
+pub mod Agreement
+pub mod Growth
+pub mod Bits
+pub mod EdgeNumbers

@@ -1,6 +1,3 @@
-pub mod Places
-pub mod Entries
-pub mod LookUps
-pub mod Define
 pub mod Passes
-pub mod EntryShapes
+pub mod PropertyRows
+pub mod LookUpPasses

@@ -1,12 +1,20 @@
 -- Repeats and sets of names as one pass finds them.
-use Rattle.std.specs.Prelude.{ℕ, cond, List, [], ◌∷◌, ◌++◌}
+use Rattle.std.specs.Prelude.{ℕ, Bool, cond, List, [], ◌∷◌, ◌++◌, map}
+use Rattle.std.specs.List.{list_any}
+use Rattle.std.specs.Str.{bytes_eq}
 use Rattle.pg_ast.specs.declared.expr.Name.{Name}
-use Rattle.pg_catalog.specs.Define.{member}
-use Rattle.pg_catalog.specs.Places.{place_if}
+use Rattle.pg_ast.specs.TableJudgement.{member}
+use Rattle.pg_ast.specs.FaultPlaces.{place_if}
 
--- a text that is new stands behind those that were seen
+abbrev pub member_by : {X : Type 0} → (X → X → Bool) → X → List X → Bool
+member_by eq x xs = list_any (eq x) xs
+
+-- what is new stands behind what was seen
+abbrev pub add_by : {X : Type 0} → (X → X → Bool) → List X → X → List X
+add_by eq seen x = cond (member_by eq x seen) seen (seen ++ x ∷ [])
+
 abbrev pub add : List (List ℕ) → List ℕ → List (List ℕ)
-add seen text = cond (member text seen) seen (seen ++ text ∷ [])
+add seen text = add_by bytes_eq seen text
 
 -- each text once
 abbrev pub add_all : List (List ℕ) → List (List ℕ) → List (List ℕ)
@@ -17,3 +25,6 @@ add_all seen (t ∷ ts) = add_all (add seen t) ts
 abbrev pub repeats_after : List (List ℕ) → List Name → List ℕ
 repeats_after seen [] = []
 repeats_after seen (n ∷ ns) = place_if (member n.text seen) n.at ++ repeats_after (add seen n.text) ns
+
+abbrev pub texts_of : List Name → List (List ℕ)
+texts_of ns = map (λ n. n.text) ns

@@ -1,11 +1,10 @@
 //! The entry of a table from its definition.
 ghost use Rattle.std.specs.Prelude.{◌≡◌, IfOk, map};
-ghost use Rattle.pg_catalog.specs.Define as spec;
-ghost use Rattle.pg_catalog.specs.Entries.{IsFew};
-ghost use Rattle.pg_catalog.specs.LookUps as look;
+ghost use Rattle.pg_ast.specs.TableJudgement as spec;
+ghost use Rattle.pg_ast.specs.CatalogEntries.{IsFew};
+ghost use Rattle.pg_ast.specs.CatalogLookUps as look;
 
-use crate::{ColumnEntry, TableEntry};
-use pg_ast::{ColumnDef, ColumnType, Name, TableDef};
+use pg_ast::{ColumnDef, ColumnEntry, ColumnType, Name, TableDef, TableEntry};
 use pg_value::{ColumnShape, Kind, List, Text};
 use std::alloc::{AllocError, Global};
 
@@ -80,7 +79,11 @@ fn columns_of(
     Ok(out)
 }
 
-fn places_of(alloc: Global, columns: &[ColumnEntry], key: &[Name]) -> Result<List<u32>, AllocError>
+pub fn places_of(
+    alloc: Global,
+    columns: &[ColumnEntry],
+    key: &[Name],
+) -> Result<List<u32>, AllocError>
     requires { IsFew columns.now }
     ensures { IfOk result (λ ps. ps ≡ map (spec.place_of columns.now) key.now) }
 {

@@ -3,22 +3,34 @@ ghost use Rattle.std.specs.Prelude.{◌≡◌, [], IfOk, IfErr, OnOk, OnErr, is_
 ghost use Rattle.std.specs.Map.{keys_of};
 ghost use Rattle.std.specs.Option.{option_copied, option_map};
 ghost use Rattle.std.specs.Str.{bytes_eq};
-ghost use Rattle.pg_catalog.specs.Define as define;
-ghost use Rattle.pg_catalog.specs.EntryShapes as shape;
-ghost use Rattle.pg_catalog.specs.LookUps as spec;
+ghost use Rattle.pg_ast.specs.TableJudgement as define;
+ghost use Rattle.pg_ast.specs.EntryShapes as shape;
+ghost use Rattle.pg_ast.specs.CatalogLookUps as spec;
+ghost use Rattle.pg_ast.specs.GraphEntries as entry;
+ghost use Rattle.pg_ast.specs.GraphLookUps as look;
+ghost use Rattle.pg_ast.specs.Labels.{label_tree};
+ghost use Rattle.pg_ast.specs.GraphJudgement as graph_judge;
+ghost use Rattle.pg_ast.specs.Judgement as judge;
 
+use crate::agree::label_mismatch;
 use crate::build::{column_place, entry_of};
+use crate::elements::{elements_of, graph_of};
+use crate::graph_look::{graph_shape, property_in, tables_of};
+use crate::keys::graph_key_mismatch;
+use crate::limits::graph_limit;
+use crate::missing;
 use crate::places::{key_mismatch, limit, name_taken, no_column};
 use crate::shapes::{edge_shapes, table_shapes};
-use crate::{DefineFault, GraphEntry, TableEntry};
+use crate::taken::graph_name_taken;
+use crate::types::type_mismatch;
 use indexmap::IndexMap;
-use pg_ast::TableDef;
-use pg_value::{GraphNo, Shapes, TableNo, Text};
+use pg_ast::{Define, DefineFault, GraphDef, GraphEntry, LabelExpr, TableDef, TableEntry};
+use pg_value::{GraphNo, GraphShape, Shapes, TableNo, TableSet, Text};
 use std::alloc::{AllocError, Global};
 use std::marker::Model;
 
-/// The tables and graphs that are defined, each in order of definition. At most 64 tables and 16 graphs, whose names all
-/// differ.
+/// The tables and property graphs that are defined, each in order of definition: at most 64 tables of at most 32 columns,
+/// and at most 16 graphs of at most 32 edge tables each. `define` takes no name that a table or graph has.
 #[derive(Drop)]
 pub struct Catalog {
     tables: IndexMap<Text, TableEntry>,
@@ -26,7 +38,7 @@ pub struct Catalog {
 }
 
 impl Model for Catalog {
-    ghost use Rattle.pg_catalog.specs.Entries.{Defined, of_entries, IsSmall};
+    ghost use Rattle.pg_ast.specs.CatalogEntries.{Defined, of_entries, IsSmall};
 
     ghost Value = { Defined };
 
@@ -106,6 +118,37 @@ impl Catalog {
         Ok(Shapes { tables, edges })
     }
 
+    /// The column that an element table of a graph has for a property under any of its labels; None exactly where there is
+    /// no such graph, the table is no element table of it, or has no such property there.
+    pub fn property(&self, graph: GraphNo, table: TableNo, name: &Text) -> Option<u32>
+        ensures { result ≡ look.property_at self.now graph table name.now }
+    {
+        match self.graphs.get_index(graph.0 as usize) {
+            Some((_, entry)) => property_in(entry, table, name),
+            None => None,
+        }
+    }
+
+    /// The vertex tables of a graph, or its edge tables, whose labels meet a label expression (ISO/IEC 9075-16:2023, label
+    /// expression): `!` is complement among the tables of that sort. It takes no memory. The set is empty where there is no
+    /// such graph.
+    pub fn tables_of(&self, graph: GraphNo, edges: bool, label: &LabelExpr) -> TableSet
+        ensures { look.IsSetOf result.0 (look.tables_of self.now graph edges (label_tree label.now)) }
+    {
+        match self.graphs.get_index(graph.0 as usize) {
+            Some((_, entry)) => tables_of(entry, edges, label),
+            None => TableSet(0),
+        }
+    }
+
+    /// The vertex tables and the edge tables of a graph, both in order of definition; edge tables are numbered over all
+    /// graphs. Both lists are empty where there is no such graph. Only want of memory refuses it.
+    pub fn graph_shape(&self, alloc: Global, graph: GraphNo) -> Result<GraphShape, AllocError>
+        ensures { IfOk result (λ shape. shape ≡ look.graph_shape self.now graph) }
+    {
+        graph_shape(alloc, &self.graphs, graph.0)
+    }
+
     /// Whether a table or a graph has a name.
     fn is_defined(&self, name: &Text) -> bool
         ensures { result ≡ define.is_defined self.now name.now }
@@ -170,6 +213,104 @@ impl Catalog {
             Err(_) => Err(DefineFault::Memory),
         }
     }
+
+    fn is_full_of_graphs(&self) -> bool
+        ensures { result ≡ graph_judge.is_full self.now }
+    {
+        self.graphs.len() > 15
+    }
+
+    /// Why the labels and properties of a graph's element tables may not be defined, or what is beyond a limit.
+    fn labels_fault(
+        &self,
+        alloc: Global,
+        graph: &GraphDef,
+    ) -> Result<Option<DefineFault>, AllocError>
+        ensures { IfOk result (λ r. r ≡ graph_judge.labels_fault self.now graph.now) }
+    {
+        let elements = elements_of(alloc, &self.tables, graph)?;
+        if let Some(at) = label_mismatch(alloc, elements.as_slice())? {
+            return Ok(Some(DefineFault::LabelMismatch { at }));
+        }
+        if let Some(at) = type_mismatch(alloc, elements.as_slice())? {
+            return Ok(Some(DefineFault::TypeMismatch { at }));
+        }
+        match graph_limit(self.is_full_of_graphs(), graph) {
+            Some(at) => Ok(Some(DefineFault::Limit { at })),
+            None => Ok(None),
+        }
+    }
+
+    /// Why a graph may not be defined.
+    fn graph_fault(
+        &self,
+        alloc: Global,
+        graph: &GraphDef,
+    ) -> Result<Option<DefineFault>, AllocError>
+        ensures { IfOk result (λ r. r ≡ graph_judge.graph_fault self.now graph.now) }
+    {
+        if let Some(at) = graph_name_taken(alloc, self.is_defined(&graph.name.text), graph)? {
+            return Ok(Some(DefineFault::NameTaken { at }));
+        }
+        if let Some(at) = missing::no_table(alloc, &self.tables, graph)? {
+            return Ok(Some(DefineFault::NoTable { at }));
+        }
+        if let Some(at) = missing::no_column(&self.tables, graph) {
+            return Ok(Some(DefineFault::NoColumn { at }));
+        }
+        if let Some(at) = graph_key_mismatch(&self.tables, graph) {
+            return Ok(Some(DefineFault::KeyMismatch { at }));
+        }
+        self.labels_fault(alloc, graph)
+    }
+
+    /// Defines a property graph (ISO/IEC 9075-16:2023), which stands behind the others, or says why not, and then the
+    /// catalog is as before. NameTaken comes exactly where a table or graph has its name, or an element table, a label of
+    /// one element table or a property of one label is named twice; NoTable where a named table does not exist, or a
+    /// referenced one is no vertex table of the graph; NoColumn where a named column is not in its table; KeyMismatch
+    /// where a KEY list is not the table's primary key, or an end's lists do not match the vertex table's;
+    /// LabelMismatch where a label of two element tables has other property names or kinds on them, or a property name
+    /// means two columns of one table; TypeMismatch where a property name has two kinds; Limit at the 17th graph, the
+    /// 33rd element table, or the 9th label of one. The first of these kinds that has a place is answered, at its first
+    /// place. Memory may come at any point.
+    pub fn define_graph(&mut self, alloc: Global, graph: &GraphDef) -> Result<(), DefineFault>
+        ensures ok { IfOk result (λ _. graph_judge.graph_fault self.old graph.now ≡ None) }
+        ensures defined { OnOk result (self.new ≡ entry.with_graph self.old graph.now) }
+        ensures fault { IfErr result (define.IsFault (graph_judge.graph_fault self.old graph.now)) }
+        ensures unchanged { OnErr result (self.new ≡ self.old) }
+    {
+        let Ok(found) = self.graph_fault(alloc, graph) else {
+            return Err(DefineFault::Memory);
+        };
+        if let Some(fault) = found {
+            return Err(fault);
+        }
+        let Ok(entry) = graph_of(alloc, &self.tables, graph) else {
+            return Err(DefineFault::Memory);
+        };
+        let Ok(name) = graph.name.text.copy(alloc) else {
+            return Err(DefineFault::Memory);
+        };
+        match add_graph(&mut self.graphs, name, entry) {
+            Ok(()) => Ok(()),
+            Err(_) => Err(DefineFault::Memory),
+        }
+    }
+
+    /// Defines a table or a property graph, which stands behind the others of its sort, or says why not, and then the
+    /// catalog is as before: the first kind of fault, in the order of `DefineFault`, that has a place, at its first place.
+    /// `define_table` and `define_graph` say where each comes. Memory may come at any point.
+    pub fn define(&mut self, alloc: Global, definition: &Define) -> Result<(), DefineFault>
+        ensures ok { IfOk result (λ _. judge.define_fault self.old definition.now ≡ None) }
+        ensures defined { OnOk result (self.new ≡ judge.with_definition self.old definition.now) }
+        ensures fault { IfErr result (define.IsFault (judge.define_fault self.old definition.now)) }
+        ensures unchanged { OnErr result (self.new ≡ self.old) }
+    {
+        match definition {
+            Define::Table(table) => self.define_table(alloc, table),
+            Define::Graph(graph) => self.define_graph(alloc, graph),
+        }
+    }
 }
 
 /// The name of the column at a place of a table.
@@ -183,7 +324,7 @@ fn name_in(table: &TableEntry, column: u32) -> Option<&Text>
 }
 
 /// Puts a new table behind the others.
-#[tactic(auto, using(crate::proofs::Tables::appended))]
+#[tactic(auto, using(crate::proofs::Growth::appended))]
 fn add(
     tables: &mut IndexMap<Text, TableEntry>,
     name: Text,
@@ -194,6 +335,23 @@ fn add(
     ensures err { OnErr result (tables.new.entries ≡ tables.old.entries) }
 {
     match tables.insert(name, entry) {
+        Ok(_) => Ok(()),
+        Err(_) => Err(AllocError),
+    }
+}
+
+/// Puts a new graph behind the others.
+#[tactic(auto, using(crate::proofs::Growth::appended))]
+fn add_graph(
+    graphs: &mut IndexMap<Text, GraphEntry>,
+    name: Text,
+    entry: GraphEntry,
+) -> Result<(), AllocError>
+    requires { is_some (position (bytes_eq name) (keys_of graphs.old.entries)) ≡ false }
+    ensures ok { OnOk result (graphs.new.entries ≡ graphs.old.entries ++ (name, entry) ∷ []) }
+    ensures err { OnErr result (graphs.new.entries ≡ graphs.old.entries) }
+{
+    match graphs.insert(name, entry) {
         Ok(_) => Ok(()),
         Err(_) => Err(AllocError),
     }

@@ -1,6 +1,6 @@
 //! Places of faults, and the first of them.
-ghost use Rattle.std.specs.Prelude.{◌≡◌};
-ghost use Rattle.pg_catalog.specs.Places as spec;
+ghost use Rattle.std.specs.Prelude.{◌≡◌, ◌||◌};
+ghost use Rattle.pg_ast.specs.FaultPlaces as spec;
 
 /// The sooner of two places.
 pub fn sooner(a: Option<u32>, b: Option<u32>) -> Option<u32>
@@ -18,4 +18,11 @@ pub fn place_if(fault: bool, at: u32) -> Option<u32>
     ensures { result ≡ spec.least (spec.place_if fault at) }
 {
     if fault { Some(at) } else { None }
+}
+
+/// Whether one of three is so.
+pub fn any_of(a: bool, b: bool, c: bool) -> bool
+    ensures { result ≡ (a || (b || c)) }
+{
+    a || (b || c)
 }

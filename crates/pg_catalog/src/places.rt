@@ -1,8 +1,8 @@
 //! The first place of each kind of fault in the definition of a table.
 ghost use Rattle.std.specs.Prelude.{◌≡◌, IfOk, map};
 ghost use Rattle.std.specs.List.{flat_map};
-ghost use Rattle.pg_catalog.specs.Define as spec;
-ghost use Rattle.pg_catalog.specs.Places.{least};
+ghost use Rattle.pg_ast.specs.TableJudgement as spec;
+ghost use Rattle.pg_ast.specs.FaultPlaces.{least};
 
 use crate::least::{place_if, sooner};
 use crate::seen::{column_set, is_known, repeated_columns, repeated_keys};
@@ -12,7 +12,7 @@ use pg_value::List;
 use std::alloc::{AllocError, Global};
 
 /// A name that is taken, where the table's own is or is not.
-#[tactic(auto, using(crate::specs::Places::least_append))]
+#[tactic(auto, using(pg_ast::specs::FaultPlaces::least_append))]
 pub fn name_taken(
     alloc: Global,
     is_defined: bool,
@@ -27,7 +27,7 @@ pub fn name_taken(
 }
 
 /// The first of some names that is not known.
-#[tactic(auto, using(crate::specs::Places::least_found, crate::specs::Places::sooner_none))]
+#[tactic(auto, using(pg_ast::specs::FaultPlaces::least_found, pg_ast::specs::FaultPlaces::sooner_none))]
 fn unknown(known: &IndexSet<&str>, names: &[Name]) -> Option<u32>
     ensures { result ≡ least (spec.unknown (map (λ k. k.now) known.now.keys) names.now) }
 {
@@ -42,7 +42,7 @@ fn unknown(known: &IndexSet<&str>, names: &[Name]) -> Option<u32>
 }
 
 /// The first name in some lists that is not known.
-#[tactic(auto, using(crate::specs::Places::least_found, crate::specs::Places::sooner_none))]
+#[tactic(auto, using(pg_ast::specs::FaultPlaces::least_found, pg_ast::specs::FaultPlaces::sooner_none))]
 fn unknown_in(known: &IndexSet<&str>, keys: &[List<Name>]) -> Option<u32>
     ensures { result ≡ least (flat_map (spec.unknown (map (λ k. k.now) known.now.keys)) keys.now) }
 {
@@ -95,7 +95,7 @@ fn too_long(kind: ColumnType) -> Option<u32>
     }
 }
 
-#[tactic(auto, using(crate::specs::Places::least_found, crate::specs::Places::sooner_none))]
+#[tactic(auto, using(pg_ast::specs::FaultPlaces::least_found, pg_ast::specs::FaultPlaces::sooner_none))]
 fn too_long_columns(columns: &[ColumnDef]) -> Option<u32>
     ensures { result ≡ least (flat_map spec.too_long_column columns.now) }
 {
@@ -106,7 +106,7 @@ fn too_long_columns(columns: &[ColumnDef]) -> Option<u32>
     found
 }
 
-#[tactic(auto, using(crate::specs::Places::least_found, crate::specs::Places::sooner_none))]
+#[tactic(auto, using(pg_ast::specs::FaultPlaces::least_found, pg_ast::specs::FaultPlaces::sooner_none))]
 fn keys_beyond(keys: &[List<Name>]) -> Option<u32>
     ensures { result ≡ least (flat_map (spec.beyond 4) keys.now) }
 {
@@ -118,7 +118,7 @@ fn keys_beyond(keys: &[List<Name>]) -> Option<u32>
 }
 
 /// The first thing beyond a limit, where there is room for a table or not.
-#[tactic(auto, using(crate::specs::Places::least_append))]
+#[tactic(auto, using(pg_ast::specs::FaultPlaces::least_append))]
 pub fn limit(is_full: bool, table: &TableDef) -> Option<u32>
     ensures { result ≡ least (spec.limit is_full table.now) }
 {

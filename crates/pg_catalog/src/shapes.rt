@@ -1,9 +1,9 @@
 //! The shapes of tables and of edge tables.
 ghost use Rattle.std.specs.Prelude.{◌≡◌, ◌++◌, IfOk, OnOk, map};
-ghost use Rattle.pg_catalog.specs.EntryShapes as spec;
+ghost use Rattle.pg_ast.specs.EntryShapes as spec;
 
-use crate::{ColumnEntry, EdgeEntry, GraphEntry, TableEntry};
 use indexmap::IndexMap;
+use pg_ast::{ColumnEntry, EdgeEntry, GraphEntry, TableEntry};
 use pg_value::{ColumnShape, EdgeShape, List, TableShape, Text};
 use std::alloc::{AllocError, Global};
 

@@ -1,19 +1,19 @@
 use crate::*;
-use pg_ast::{ColumnDef, ColumnType, Name, TableDef};
+use pg_ast::{ColumnDef, ColumnType, DefineFault, Name, TableDef};
 use pg_value::{List, TableNo, Text};
 use std::alloc::{AllocError, Global};
 use std::test::Fail;
 
 const INT: ColumnType = ColumnType::Integer;
 
-fn name(alloc: Global, text: &str, at: u32) -> Result<Name, AllocError> {
+pub fn name(alloc: Global, text: &str, at: u32) -> Result<Name, AllocError> {
     Ok(Name {
         text: Text::from_str(alloc, text)?,
         at,
     })
 }
 
-fn key(alloc: Global, names: &[(&str, u32)]) -> Result<List<Name>, AllocError> {
+pub fn key(alloc: Global, names: &[(&str, u32)]) -> Result<List<Name>, AllocError> {
     let mut list = List::new(alloc);
     for (text, at) in names {
         list.push(name(alloc, *text, *at)?)?;
@@ -22,7 +22,7 @@ fn key(alloc: Global, names: &[(&str, u32)]) -> Result<List<Name>, AllocError> {
 }
 
 /// A table whose name stands at 13 of its statement, which begins at 0.
-fn table(
+pub fn table(
     alloc: Global,
     own: &str,
     columns: &[(&str, u32, ColumnType)],
@@ -49,7 +49,7 @@ fn table(
 }
 
 /// A table of columns that are named by numbers, at those places, with a key of the column 0.
-fn numbered(alloc: Global, own: &str, count: u32) -> Result<TableDef, AllocError> {
+pub fn numbered(alloc: Global, own: &str, count: u32) -> Result<TableDef, AllocError> {
     let mut columns = List::new(alloc);
     for at in 0..count {
         let mut text = Text::new(alloc);
@@ -70,11 +70,11 @@ fn numbered(alloc: Global, own: &str, count: u32) -> Result<TableDef, AllocError
     })
 }
 
-fn varchar(bytes: u32) -> ColumnType {
+pub fn varchar(bytes: u32) -> ColumnType {
     ColumnType::Varchar { bytes, at: 77 }
 }
 
-fn outcome(defined: Result<(), DefineFault>) -> Option<DefineFault> {
+pub fn outcome(defined: Result<(), DefineFault>) -> Option<DefineFault> {
     match defined {
         Ok(()) => None,
         Err(fault) => Some(fault),

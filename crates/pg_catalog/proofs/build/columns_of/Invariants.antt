@@ -1,5 +1,5 @@
-use Rattle.std.proofs.Common.{◌≡◌, drop, take, map, []}
-use Rattle.pg_catalog.specs.Define.{column_of}
+use Rattle.std.proofs.Common.{◌≡◌, take, map}
+use Rattle.pg_ast.specs.TableJudgement.{column_of}
 use Rattle.pg_catalog.proofs.build.columns_of.Given as goal
 
 abbrev pub invariant-loop-column : goal.invariant-loop-column

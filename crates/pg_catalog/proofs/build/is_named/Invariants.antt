@@ -1,5 +1,5 @@
-use Rattle.std.proofs.Common.{◌≡◌, drop, take, map, []}
-use Rattle.pg_catalog.specs.Define.{is_named}
+use Rattle.std.proofs.Common.{◌≡◌, drop}
+use Rattle.pg_ast.specs.TableJudgement.{is_named}
 use Rattle.pg_catalog.proofs.build.is_named.Given as goal
 
 abbrev pub invariant-loop-name : goal.invariant-loop-name

@@ -1,5 +1,5 @@
-use Rattle.std.proofs.Common.{◌≡◌, drop, take, map, []}
-use Rattle.pg_catalog.specs.Define.{place_of}
+use Rattle.std.proofs.Common.{◌≡◌, take, map}
+use Rattle.pg_ast.specs.TableJudgement.{place_of}
 use Rattle.pg_catalog.proofs.build.places_of.Given as goal
 
 abbrev pub invariant-loop-name : goal.invariant-loop-name

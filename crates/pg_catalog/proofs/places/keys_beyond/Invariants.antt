@@ -1,7 +1,7 @@
-use Rattle.std.proofs.Common.{◌≡◌, drop, take, map, []}
+use Rattle.std.proofs.Common.{◌≡◌, drop}
 use Rattle.std.specs.List.{flat_map}
-use Rattle.pg_catalog.specs.Places.{least, sooner}
-use Rattle.pg_catalog.specs.Define.{beyond}
+use Rattle.pg_ast.specs.FaultPlaces.{least, sooner}
+use Rattle.pg_ast.specs.TableJudgement.{beyond}
 use Rattle.pg_catalog.proofs.places.keys_beyond.Given as goal
 
 abbrev pub invariant-loop-key : goal.invariant-loop-key

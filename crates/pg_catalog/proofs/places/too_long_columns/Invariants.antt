@@ -1,7 +1,7 @@
-use Rattle.std.proofs.Common.{◌≡◌, drop, take, map, []}
+use Rattle.std.proofs.Common.{◌≡◌, drop}
 use Rattle.std.specs.List.{flat_map}
-use Rattle.pg_catalog.specs.Places.{least, sooner}
-use Rattle.pg_catalog.specs.Define.{too_long_column}
+use Rattle.pg_ast.specs.FaultPlaces.{least, sooner}
+use Rattle.pg_ast.specs.TableJudgement.{too_long_column}
 use Rattle.pg_catalog.proofs.places.too_long_columns.Given as goal
 
 abbrev pub invariant-loop-column : goal.invariant-loop-column

@@ -1,6 +1,6 @@
-use Rattle.std.proofs.Common.{◌≡◌, drop, take, map, []}
-use Rattle.pg_catalog.specs.Places.{least, sooner}
-use Rattle.pg_catalog.specs.Define.{unknown}
+use Rattle.std.proofs.Common.{◌≡◌, drop, map}
+use Rattle.pg_ast.specs.FaultPlaces.{least, sooner}
+use Rattle.pg_ast.specs.TableJudgement.{unknown}
 use Rattle.pg_catalog.proofs.places.unknown.Given as goal
 
 abbrev pub invariant-loop-name : goal.invariant-loop-name

@@ -1,5 +1,5 @@
-use Rattle.std.proofs.Common.{◌≡◌, drop, take, map, []}
-use Rattle.pg_catalog.specs.Define.{texts}
+use Rattle.std.proofs.Common.{◌≡◌, drop, map, []}
+use Rattle.pg_ast.specs.TableJudgement.{texts}
 use Rattle.pg_catalog.specs.Passes.{add_all}
 use Rattle.pg_catalog.proofs.seen.column_set.Given as goal
 

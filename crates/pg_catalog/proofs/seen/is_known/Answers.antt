@@ -1,6 +1,5 @@
-use Rattle.std.proofs.Common.{◌≡◌, ◌+◌, ◌∷◌, ◌∙◌, drop, drop-cons, arith, rules, map, ap, ℕ, List, Bor}
+use Rattle.std.proofs.Common.{arith, ℕ, List, Bor}
 use Rattle.std.proofs.lemmas.Grind.{common_steps}
-use Rattle.std.specs.List.{flat_map}
 use Rattle.pg_catalog.proofs.NameSets.{any_mapped}
 use Rattle.pg_catalog.proofs.seen.is_known.Goals as goal
 

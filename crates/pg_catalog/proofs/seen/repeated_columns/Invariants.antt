@@ -1,7 +1,7 @@
-use Rattle.std.proofs.Common.{◌≡◌, drop, take, map, []}
-use Rattle.pg_catalog.specs.Places.{least, sooner}
+use Rattle.std.proofs.Common.{◌≡◌, drop, map, []}
+use Rattle.pg_ast.specs.FaultPlaces.{least, sooner}
 use Rattle.pg_catalog.specs.Passes.{repeats_after}
-use Rattle.pg_catalog.specs.Define.{names}
+use Rattle.pg_ast.specs.TableJudgement.{names}
 use Rattle.pg_catalog.proofs.seen.repeated_columns.Given as goal
 
 abbrev pub invariant-loop-column : goal.invariant-loop-column

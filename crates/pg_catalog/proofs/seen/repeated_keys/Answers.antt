@@ -1,8 +1,8 @@
-use Rattle.std.proofs.Common.{◌≡◌, ◌+◌, ◌∷◌, ◌∙◌, drop, drop-cons, arith, rules, map, ap, ℕ, List, Bor}
+use Rattle.std.proofs.Common.{◌+◌, drop, arith}
 use Rattle.std.proofs.lemmas.Grind.{common_steps}
 use Rattle.std.specs.List.{flat_map}
-use Rattle.pg_catalog.specs.Define.{repeats}
-use Rattle.pg_catalog.specs.Places.{least_found}
+use Rattle.pg_ast.specs.TableJudgement.{repeats}
+use Rattle.pg_ast.specs.FaultPlaces.{least_found}
 use Rattle.pg_catalog.proofs.seen.repeated_keys.Goals as goal
 
 pub loop-key-preserved : goal.loop-key-preserved

@@ -1,7 +1,6 @@
-use Rattle.std.proofs.Common.{◌≡◌, ◌+◌, ◌∷◌, ◌∙◌, drop, drop-cons, arith, rules, map, ap, ℕ, List, Bor}
+use Rattle.std.proofs.Common.{arith}
 use Rattle.std.proofs.lemmas.Grind.{common_steps}
-use Rattle.std.specs.List.{flat_map}
-use Rattle.pg_catalog.specs.Places.{sooner_none}
+use Rattle.pg_ast.specs.FaultPlaces.{sooner_none}
 use Rattle.pg_catalog.proofs.NameSets.{seen_all}
 use Rattle.pg_catalog.proofs.seen.repeats.Goals as goal
 

@@ -1,5 +1,5 @@
-use Rattle.std.proofs.Common.{◌≡◌, drop, take, map, []}
-use Rattle.pg_catalog.specs.Places.{least, sooner}
+use Rattle.std.proofs.Common.{◌≡◌, drop, map, []}
+use Rattle.pg_ast.specs.FaultPlaces.{least, sooner}
 use Rattle.pg_catalog.specs.Passes.{repeats_after}
 use Rattle.pg_catalog.proofs.seen.repeats.Given as goal
 

@@ -1,4 +1,4 @@
-use Rattle.std.proofs.Common.{◌≡◌, ◌++◌, take, map}
+use Rattle.std.proofs.Common.{◌≡◌, take, map}
 use Rattle.pg_catalog.proofs.shapes.column_shapes.Given as goal
 
 abbrev pub invariant-loop-column : goal.invariant-loop-column

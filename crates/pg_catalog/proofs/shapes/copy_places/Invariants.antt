@@ -1,4 +1,4 @@
-use Rattle.std.proofs.Common.{◌≡◌, ◌++◌, take, map}
+use Rattle.std.proofs.Common.{◌≡◌, take}
 use Rattle.pg_catalog.proofs.shapes.copy_places.Given as goal
 
 abbrev pub invariant-loop-place : goal.invariant-loop-place

@@ -1,8 +1,7 @@
-use Rattle.std.proofs.Common.{rules, ◌≡◌, ◌∙◌, ap, arith, subst, sym, None}
-use Rattle.std.proofs.lemmas.Grind.{common_steps}
-use Rattle.pg_catalog.specs.Entries.{IsSmall, of_entries}
-use Rattle.pg_catalog.specs.Define.{table_fault, with_table}
-use Rattle.pg_catalog.proofs.Tables.{small}
+use Rattle.std.proofs.Common.{rules, ◌≡◌, None}
+use Rattle.pg_ast.specs.CatalogEntries.{of_entries}
+use Rattle.pg_ast.specs.TableJudgement.{table_fault}
+use Rattle.pg_catalog.proofs.Growth.{small}
 use Rattle.pg_catalog.proofs.catalog.Catalog.define_table.Goals as goal
 use Rattle.pg_catalog.proofs.catalog.Catalog.define_table.Goals.{in-Ok-add, in-Err}
 
