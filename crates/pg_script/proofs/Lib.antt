@@ -1,1 +1,13 @@
 pub mod Joined
+pub mod LineLaws
+pub mod HeaderLaws
+pub mod LayoutLaws
+pub mod TurnLaws
+pub mod PartLaws
+pub mod ItemLaws
+pub mod DraftLaws
+pub mod SplitLaws
+pub mod Runs
+pub mod Atoms
+pub mod Spans
+pub mod Afters

@@ -1,12 +1,27 @@
-//! A script's sections and a run's transcript: their types, the transcript's text, and which transcripts are legal.
+//! A script from its bytes, and a run's transcript: their types, the transcript's text, and which transcripts are legal.
 #![tactic(auto)]
 
+mod after;
+mod draft;
+mod fault;
+mod header;
+mod items;
+mod laws;
+mod layout;
+mod lines;
 mod outcome;
+mod parts;
 mod printing;
 mod script;
+mod splitting;
+mod statements;
 mod transcript;
+mod turns;
 
+pub use fault::{ScriptFault, ScriptKind};
+pub use laws::one_answer;
 pub use outcome::{ColumnFault, FaultKind, Outcome};
 pub use printing::print;
 pub use script::{Item, Script, Section};
+pub use splitting::split;
 pub use transcript::{SectionOut, Transcript};

@@ -1,0 +1,10 @@
+use Rattle.std.proofs.Common.{[], take}
+use Rattle.pg_script.specs.Reading.{parts_of}
+use Rattle.pg_script.specs.Drafts.{IsDraft, AreRight}
+use Rattle.pg_script.proofs.draft.make_draft.Given as goal
+
+abbrev pub invariant-parts : goal.invariant-parts
+invariant-parts l = record {
+  drafted : IsDraft (parts_of l.bytes (take l.i l.parts)) l.draft;
+  right : AreRight l.bytes [] (parts_of l.bytes (take l.i l.parts));
+}

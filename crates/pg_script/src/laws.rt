@@ -1,0 +1,13 @@
+//! Laws about what scripts mean, each the contract of a function that does nothing.
+ghost use Rattle.std.specs.Prelude.{◌≡◌, ℕ, List};
+ghost use Rattle.pg_script.specs.declared.fault.ScriptKind.{ScriptKind};
+ghost use Rattle.pg_script.specs.declared.script.Script.{Script};
+ghost use Rattle.pg_script.specs.Script.{IsScript, IsScriptFault};
+
+/// The law that an input has one answer: it is at most one script, or has at most one fault, which is a line and a kind,
+/// and never both.
+pub fn one_answer()
+    ensures one_script { (bytes : List ℕ) (s t : Script) → IsScript bytes s → IsScript bytes t → s ≡ t }
+    ensures no_fault { (bytes : List ℕ) (s : Script) (line : ℕ) (kind : ScriptKind) → IsScript bytes s → IsScriptFault bytes line kind → ⊥ }
+    ensures one_fault { (bytes : List ℕ) (l m : ℕ) (j k : ScriptKind) → IsScriptFault bytes l j → IsScriptFault bytes m k → (l ≡ m) × (j ≡ k) }
+{}
