@@ -21,15 +21,15 @@ use Rattle.pg_script.specs.declared.transcript.Transcript.{Transcript}
 use Rattle.pg_script.specs.Judged.{Judged, answered}
 use Rattle.pg_script.specs.Session.{printed}
 use Rattle.pg_script.specs.Legal.{no_section, items_of, setup_of}
+use Rattle.pg_script.specs.Script.{IsScript}
 use Rattle.pgq.specs.declared.setup.Setup.{Setup}
 use Rattle.pgq.specs.declared.hop.HopColumn.{HopColumn}
 use Rattle.pgq.specs.Stepped.{outs_of, now, Turns, setup_turns, first_world, is_definition, Stepped, AreSessions}
 use Rattle.pgq.specs.SteppedLegal.{stepped_legal}
 use Rattle.pgq.specs.Alone.{setup_world, alone_run, alone_transcript}
-use Rattle.pgq.specs.Lines.{IsScript}
 use Rattle.pgq.specs.Language.{Catalog, nothing, language, shapes_of, graph_shape, set_of}
 use Rattle.pgq.specs.Hop.{hop_column}
-use Rattle.pgq.specs.Setup.{IsSetup, catalog_of, entry_of, most_writes, IsAnswered, IsTranscriptOf, HasRun, IsRunOf}
+use Rattle.pgq.specs.Setup.{IsSetup, catalog_of, entry_of, most_writes, IsAnswered, IsTranscriptOf, HasRun, HasRunOf, IsRunOf}
 
 one_item : (items : List Item) (item : Item) → length items ≡ 1 → slice_get items 0 ≡ Some item → items ≡ item ∷ []
 one_item [] item n e = absurd (omega arith)
@@ -58,14 +58,14 @@ judged text items item s o seen h a =
     (a.is_outcome ∙ ap (λ ns. Rows (length s.log) 0 ns a.rows) (names_same a.columns)) refl
 
 -- a list of two, read at both places
-both : {A : Type 0} (xs : List A) (a b c d : A) → xs ≡ a ∷ b ∷ [] → slice_get xs 0 ≡ Some c → slice_get xs 1 ≡ Some d → xs ≡ c ∷ d ∷ []
-both xs a b c d e f g =
-    let p : Some a ≡ Some c = sym (ap (λ l. slice_get l 0) e) ∙ f in
-    let q : Some b ≡ Some d = sym (ap (λ l. slice_get l 1) e) ∙ g in
-    e ∙ pair a b c d p q
+two_of : {A : Type 0} (xs : List A) (c d : A) → length xs ≡ 2 → slice_get xs 0 ≡ Some c → slice_get xs 1 ≡ Some d → xs ≡ c ∷ d ∷ []
+two_of [] c d n f g = absurd (omega arith)
+two_of (a ∷ []) c d n f g = absurd (omega arith)
+two_of (a ∷ b ∷ []) c d n f g = pair a b c d f g
   where
     pair : {A : Type 0} (a b c d : A) → Some a ≡ Some c → Some b ≡ Some d → a ∷ b ∷ [] ≡ c ∷ d ∷ []
     pair a b c d p q = cc
+two_of (a ∷ b ∷ x ∷ xs) c d n f g = absurd (omega arith)
 
 items_first : (script : Script) (setup session : Section) → script.sections ≡ setup ∷ session ∷ [] → items_of script 0 ≡ setup.items
 items_first script setup session e = ap (λ (ss : List Section). (get_or ss 0 no_section).items) e
@@ -84,26 +84,32 @@ transcript_same bytes script setup session s o t has named r = λ i. record {
     two : List ℕ → List SectionOut
     two n = record { name = n; outcomes = s.outcomes; rolled_back = false } ∷ record { name = session.name; outcomes = o ∷ []; rolled_back = false } ∷ []
 
-pub run_is : (bytes : List ℕ) (script : Script) (setup session : Section) (t : Transcript) → IsScript bytes script → slice_get script.sections 0 ≡ Some setup → slice_get script.sections 1 ≡ Some session → HasRun bytes setup session t → IsRunOf bytes t
-run_is bytes script setup session t is first second r =
+run_on : (bytes : List ℕ) (script : Script) (setup session : Section) (t : Transcript) → IsScript bytes script → script.has_setup ≡ true → script.order ≡ [] → length script.sections ≡ 2
+    → slice_get script.sections 0 ≡ Some setup → slice_get script.sections 1 ≡ Some session → HasRun bytes setup session t → IsRunOf bytes t
+run_on bytes script setup session t is has no_order count first second r =
     let s = r.done in
     let J = language bytes in
-    let two : script.sections ≡ setup ∷ session ∷ [] = both script.sections _ _ setup session is.sections first second in
+    let two : script.sections ≡ setup ∷ session ∷ [] = two_of script.sections setup session count first second in
     let single : session.items ≡ r.item ∷ [] = one_item session.items r.item r.one r.item_at in
     let turns : Turns J most_writes script (first_world script nothing) (setup_turns script) (setup_world 2 0 s.log (catalog_of s) s.outcomes) =
     subst (λ k. Turns J most_writes script (first_world script nothing) (replicate k 0) (setup_world 2 0 s.log (catalog_of s) s.outcomes))
     (r.whole ∙ ap length (sym (items_first script setup session two)))
     (r.run.turns script (ap length two) (items_first script setup session two)) in
     let stepped : Stepped J nothing most_writes script (alone_transcript J script setup session s.log (catalog_of s) s.outcomes (r.outcome ∷ [])) =
-    alone_run J nothing most_writes script setup session r.item 0 s.log (catalog_of s) s.outcomes r.outcome two is.order single turns
+    alone_run J nothing most_writes script setup session r.item 0 s.log (catalog_of s) s.outcomes r.outcome two no_order single turns
     (judged bytes setup.items r.item s r.outcome (setup_of s.log) r.run r.answered)
     (ap is_definition r.answered.is_outcome) (ap printed r.answered.is_outcome) r.few in
-    let title : setup.name ≡ codes "setup" = ap (λ (ss : List Section). (get_or ss 0 no_section).name) (sym two ∙ is.sections) in
-    let same : alone_transcript J script setup session s.log (catalog_of s) s.outcomes (r.outcome ∷ []) ≡ t = transcript_same bytes script setup session s r.outcome t is.has_setup title r.transcript in
+    let title : setup.name ≡ codes "setup" = ap (λ (ss : List Section). (get_or ss 0 no_section).name) (sym two ∙ is.sections) ∙ is.is_setup.named in
+    let same : alone_transcript J script setup session s.log (catalog_of s) s.outcomes (r.outcome ∷ []) ≡ t = transcript_same bytes script setup session s r.outcome t has title r.transcript in
     let step : Stepped J nothing most_writes script t = subst (Stepped J nothing most_writes script) same stepped in
     record {
       script = script;
       of_bytes = is;
       stepped = step;
-      legal = stepped_legal J nothing most_writes script (λ n k name m i item at reads. absurd reads) (subst AreSessions (sym is.order) tt) t step;
+      legal = stepped_legal J nothing most_writes script (λ n k name m i item at reads. absurd reads) (subst AreSessions (sym no_order) tt) t step;
     }
+
+pub run_is : (bytes : List ℕ) (script : Script) (t : Transcript) → IsScript bytes script → HasRunOf script t → IsRunOf bytes t
+run_is bytes script t is r =
+    run_on bytes script r.setup r.session t is r.setup_stands r.no_order r.two r.setup_at r.session_at
+    (subst (λ (text : List ℕ). HasRun text r.setup r.session t) is.text r.run)

@@ -5,38 +5,61 @@ use Rattle.std.specs.Io.KnownBytes.{Appends, Keeps}
 use Rattle.pg_outside.specs.Causes.{Rose}
 use Rattle.pg_script.specs.declared.transcript.Transcript.{Transcript}
 use Rattle.pg_script.specs.Text.{text_of}
+use Rattle.pg_script.specs.declared.script.Script.{Script}
+use Rattle.pg_script.specs.declared.fault.ScriptKind.{ScriptKind}
+use Rattle.pg_script.specs.Script.{most_bytes, IsScript, IsScriptFault}
 use Rattle.pgq.specs.Bytes.{ReadsAll, ReadsSome, TookFront}
 use Rattle.pgq.specs.Words.{HasForm, HasNoForm}
 use Rattle.pgq.specs.Setup.{IsRunOf}
 use Rattle.pgq.specs.declared.words.Form.TheVariants.{Step}
+use Rattle.pgq.specs.declared.step.NoText.{NoText}
+use Rattle.pgq.specs.declared.step.NoText.TheVariants as no_text
 use Rattle.pgq.specs.declared.status.Status.{Status}
-use Rattle.pgq.specs.declared.status.Status.TheVariants.{Done, BadWords, ReadFault, WriteFault, Memory, NotYet}
+use Rattle.pgq.specs.declared.status.Status.TheVariants.{Done, BadScript, BadWords, ReadFault, WriteFault, Memory, NotYet}
 
 -- the text is that of a transcript of the script which these bytes are: the transcript of its stepped run, which is legal
 abbrev pub IsTextOf : List ℕ → List ℕ → Type 0
 IsTextOf bytes text = (t : Transcript) × IsRunOf bytes t × (text ≡ text_of t)
 
+-- the bytes are a script
+abbrev pub IsSomeScript : List ℕ → Type 0
+IsSomeScript bytes = (script : Script) × IsScript bytes script
+
+-- why no text was made of the bytes of an input
+abbrev pub IsNoText : List ℕ → NoText → Type 0
+IsNoText bytes (no_text.Bad line kind) = IsScriptFault bytes line kind
+IsNoText bytes no_text.NotYet = IsSomeScript bytes
+IsNoText bytes no_text.Memory = Unit {0}
+
 -- the source was read to its end, and the text is one of what was read
 pub record LegalRun (before after : Option (List ℕ)) (text : List ℕ) : Type 0 where
   pub bytes : List ℕ
-  pub read : ReadsAll 65536 before after bytes
-  pub short : length bytes ≤ 65536
+  pub read : ReadsAll most_bytes before after bytes
+  pub short : length bytes ≤ most_bytes
   pub is_text : IsTextOf bytes text
 
--- What was read and not run: all of the source, or one byte more than a script may have. Which bytes are not run yet is free.
+-- The source was read to its end, and the bytes are a script that is not run yet. Which scripts these are is free.
 pub record ReadsNoRun (before after : Option (List ℕ)) : Type 0 where
   pub bytes : List ℕ
-  pub read : ReadsAll 65536 before after bytes
+  pub read : ReadsAll most_bytes before after bytes
+  pub is_script : IsSomeScript bytes
+
+-- What was read is no script, by this fault: all of the source, or one byte more than a script may have.
+pub record ReadsNoScript (before after : Option (List ℕ)) (line : ℕ) (kind : ScriptKind) : Type 0 where
+  pub bytes : List ℕ
+  pub read : ReadsAll most_bytes before after bytes
+  pub fault : IsScriptFault bytes line kind
 
 -- the bytes that are left to read and those that the sink holds, before and after, where they are told, and the counts of faults
 module _ (left left' : Option (List ℕ)) (read_faults read_faults' : ℕ) (held held' : Option (List ℕ)) (write_faults write_faults' : ℕ) where
   -- `step`: what was read and written, and why, by the status
   abbrev pub StepMeans : Status → Type 0
   StepMeans Done = (text : List ℕ) × LegalRun left left' text × Appends held held' text
+  StepMeans (BadScript line kind) = ReadsNoScript left left' line kind × Keeps held held'
   StepMeans BadWords = ⊥
-  StepMeans ReadFault = Rose read_faults read_faults' × ReadsSome 65536 left left' × Keeps held held'
+  StepMeans ReadFault = Rose read_faults read_faults' × ReadsSome most_bytes left left' × Keeps held held'
   StepMeans WriteFault = Rose write_faults write_faults' × ((text : List ℕ) × LegalRun left left' text × TookFront held held' text)
-  StepMeans Memory = ReadsSome 65536 left left' × Keeps held held'
+  StepMeans Memory = ReadsSome most_bytes left left' × Keeps held held'
   StepMeans NotYet = ReadsNoRun left left' × Keeps held held'
 
   -- nothing was read or written, and no fault came

@@ -18,7 +18,6 @@ pub mod KeepsLegal
 pub mod TurnsJoin
 pub mod SteppedLegal
 pub mod Alone
-pub mod Lines
 pub mod Language
 pub mod Setup
 pub mod Hop

@@ -18,6 +18,7 @@ use Rattle.pg_script.specs.declared.outcome.Outcome.TheVariants.{ChangedAlone, R
 use Rattle.pg_script.specs.declared.transcript.Transcript.{Transcript}
 use Rattle.pg_script.specs.Judged.{IsCommit, Changes, Asks}
 use Rattle.pg_script.specs.Legal.{items_of, Legal}
+use Rattle.pg_script.specs.Script.{IsScript}
 use Rattle.pgq.specs.declared.form.TableForm.{TableForm}
 use Rattle.pgq.specs.declared.form.GraphForm.{GraphForm}
 use Rattle.pgq.specs.declared.form.InsertForm.{InsertForm}
@@ -27,7 +28,6 @@ use Rattle.pgq.specs.declared.setup.Setup.{Setup}
 use Rattle.pgq.specs.declared.hop.HopColumn.{HopColumn}
 use Rattle.pgq.specs.Stepped.{Turns, first_world, Stepped}
 use Rattle.pgq.specs.Alone.{setup_world}
-use Rattle.pgq.specs.Lines.{IsScript}
 use Rattle.pgq.specs.Language.{Catalog, GraphEntry, nothing, part_of, reads, row_write, IsQueryOf, graph_shape, set_of, language}
 use Rattle.pgq.specs.Hop.{Holds, hop_column, IsHopAnswer}
 
@@ -150,6 +150,17 @@ pub record HasRun (text : List ℕ) (setup session : Section) (t : Transcript) :
   pub item_at : slice_get session.items 0 ≡ Some item
   pub answered : IsAnswered text item done outcome
   pub transcript : IsTranscriptOf done session.name outcome t
+
+-- the script has a setup and one session, and no order; the setup ran, and the session's one item was a query
+pub record HasRunOf (script : Script) (t : Transcript) : Type 0 where
+  pub setup_stands : script.has_setup ≡ true
+  pub no_order : script.order ≡ []
+  pub two : length script.sections ≡ 2
+  pub setup : Section
+  pub session : Section
+  pub setup_at : slice_get script.sections 0 ≡ Some setup
+  pub session_at : slice_get script.sections 1 ≡ Some session
+  pub run : HasRun script.text setup session t
 
 -- the bytes are a script, and the transcript is that of its stepped run, which is legal
 pub record IsRunOf (bytes : List ℕ) (t : Transcript) : Type 0 where

@@ -8,7 +8,6 @@ mod catalog;
 mod cursor;
 mod form;
 mod hop;
-mod lines;
 mod names;
 mod query;
 mod run;

@@ -1,11 +1,10 @@
-ghost use Rattle.std.specs.Prelude.{◌≡◌, ◌<◌, ◌^◌, [], ◌∷◌, length, false, IfOk, codes};
-ghost use Rattle.pgq.specs.Setup.{IsRunOf, IsTranscriptOf, HasRun};
+ghost use Rattle.std.specs.Prelude.{◌≡◌, ◌<◌, ◌^◌, [], ◌∷◌, length, true, false, IfOk, IsTrue, codes};
+ghost use Rattle.pgq.specs.Setup.{IsTranscriptOf, HasRun, HasRunOf};
 
 use crate::cursor::{Unread, at};
-use crate::lines::read_script;
 use crate::query::answer;
 use crate::setup::{Setup, run_setup};
-use pg_script::{Outcome, Section, SectionOut, Transcript};
+use pg_script::{Outcome, Script, Section, SectionOut, Transcript};
 use pg_value::{List, Text};
 use std::alloc::Global;
 
@@ -87,14 +86,25 @@ fn run_sections(
     Ok(transcript)
 }
 
-/// Reads a script and runs it: the transcript of its stepped run.
-pub fn run(alloc: Global, bytes: &[u8]) -> Result<Transcript, Unread>
-    requires { length bytes.now < 2 ^ 32 }
-    ensures { IfOk result (IsRunOf bytes.now) }
+/// Whether a script has a setup and one session, and no order.
+fn has_form(script: &Script) -> bool
+    ensures setup { IsTrue result → script.now.has_setup ≡ true }
+    ensures order { IsTrue result → script.now.order ≡ [] }
+    ensures two { IsTrue result → length script.now.sections ≡ 2 }
 {
-    let script = read_script(alloc, bytes)?;
+    script.has_setup && script.order.is_empty() && script.sections.len() == 2
+}
+
+/// Runs a script: the transcript of its stepped run. `Unread::Form` says that it is not run yet.
+pub fn run(alloc: Global, script: &Script) -> Result<Transcript, Unread>
+    requires { length script.now.text < 2 ^ 32 }
+    ensures { IfOk result (HasRunOf script.now) }
+{
+    if !has_form(script) {
+        return Err(Unread::Form);
+    }
     let setup = at(&script.sections, 0)?;
     let session = at(&script.sections, 1)?;
-    let transcript = run_sections(alloc, bytes, setup, session)?;
+    let transcript = run_sections(alloc, script.text.as_bytes(), setup, session)?;
     Ok(transcript)
 }

@@ -1,6 +1,7 @@
 ghost use Rattle.std.specs.Prelude.{◌≡◌, ◌↔◌, IsNone};
 ghost use Rattle.pgq.specs.Status.{number_of};
 
+use pg_script::ScriptKind;
 use std::io;
 use thiserror::Error;
 
@@ -9,6 +10,9 @@ use thiserror::Error;
 pub enum Status {
     /// The source was read to its end, and every byte of the text was taken.
     Done,
+    /// What was read is no script, by a fault of this kind at this line, counted from 1; the line is 0 where there are more
+    /// than 16,777,216 bytes, of which one more was read. Nothing was written.
+    BadScript { line: u32, kind: ScriptKind },
     /// The words are of no form. Nothing was read or written.
     BadWords,
     /// A read failed. Nothing was written.
@@ -17,13 +21,15 @@ pub enum Status {
     WriteFault,
     /// Memory was wanted. Nothing was written.
     Memory,
-    /// There are more than 65,536 bytes, or they are no script that is run yet. Nothing was written.
+    /// The source was read to its end and is a script that is not run yet. Nothing was written.
     NotYet,
 }
 
 // The line that is printed on standard error.
 #[derive(Debug, Drop, Error)]
 enum Fault {
+    #[error("pgq: line {line}: {kind}")]
+    BadScript { line: u32, kind: &'static str },
     #[error("pgq: bad words")]
     BadWords,
     #[error("pgq: read fault")]
@@ -36,13 +42,26 @@ enum Fault {
     NotYet,
 }
 
+// The word for a kind of fault.
+fn word_of(kind: ScriptKind) -> &'static str {
+    match kind {
+        ScriptKind::TooLong => "TooLong",
+        ScriptKind::NotText => "NotText",
+        ScriptKind::Section => "Section",
+        ScriptKind::Sessions => "Sessions",
+        ScriptKind::Statements => "Statements",
+        ScriptKind::AfterName => "AfterName",
+    }
+}
+
 impl Status {
-    /// The number that the program ends with: 0 for `Done`, and 2 to 6 in the order of the others.
+    /// The number that the program ends with: 0 for `Done`, and 1 to 6 in the order of the others.
     pub fn number(self) -> u8
         ensures { result ≡ number_of self }
     {
         match self {
             Status::Done => 0,
+            Status::BadScript { .. } => 1,
             Status::BadWords => 2,
             Status::ReadFault => 3,
             Status::WriteFault => 4,
@@ -56,6 +75,10 @@ impl Status {
     {
         match self {
             Status::Done => None,
+            Status::BadScript { line, kind } => Some(Fault::BadScript {
+                line,
+                kind: word_of(kind),
+            }),
             Status::BadWords => Some(Fault::BadWords),
             Status::ReadFault => Some(Fault::ReadFault),
             Status::WriteFault => Some(Fault::WriteFault),
@@ -81,6 +104,48 @@ mod tests {
     #[test]
     fn lines_on_standard_error(rt: HostRuntime) -> Result<(), Fail> {
         for (status, want) in [
+            (
+                Status::BadScript {
+                    line: 0,
+                    kind: ScriptKind::TooLong,
+                },
+                "pgq: line 0: TooLong",
+            ),
+            (
+                Status::BadScript {
+                    line: 3,
+                    kind: ScriptKind::NotText,
+                },
+                "pgq: line 3: NotText",
+            ),
+            (
+                Status::BadScript {
+                    line: 1,
+                    kind: ScriptKind::Section,
+                },
+                "pgq: line 1: Section",
+            ),
+            (
+                Status::BadScript {
+                    line: 70,
+                    kind: ScriptKind::Sessions,
+                },
+                "pgq: line 70: Sessions",
+            ),
+            (
+                Status::BadScript {
+                    line: 4294967295,
+                    kind: ScriptKind::Statements,
+                },
+                "pgq: line 4294967295: Statements",
+            ),
+            (
+                Status::BadScript {
+                    line: 12,
+                    kind: ScriptKind::AfterName,
+                },
+                "pgq: line 12: AfterName",
+            ),
             (Status::BadWords, "pgq: bad words"),
             (Status::ReadFault, "pgq: read fault"),
             (Status::WriteFault, "pgq: write fault"),

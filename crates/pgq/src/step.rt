@@ -1,30 +1,56 @@
-ghost use Rattle.std.specs.Prelude.{◌≤◌, ◌<◌, ◌^◌, length, IfOk};
-ghost use Rattle.pgq.specs.Headline.{StepMeans, IsTextOf};
+ghost use Rattle.std.specs.Prelude.{◌≡◌, ◌≤◌, IfOk, IfErr};
+ghost use Rattle.pgq.specs.declared.step.NoText.TheVariants as no_text;
+ghost use Rattle.pgq.specs.Headline.{StepMeans, IsTextOf, IsNoText};
 
 use crate::bytes::{ReadError, read_all, write_all};
 use crate::cursor::Unread;
 use crate::run::run;
 use crate::status::Status;
 use pg_outside::{Sink, Source};
-use pg_script::print;
+use pg_script::{ScriptFault, ScriptKind, print, split};
 use pg_value::Text;
 use std::alloc::{AllocError, Global};
 
 /// The most bytes that a script may have.
-const MOST_BYTES: usize = 65536;
+const MOST_BYTES: usize = 16777216;
+
+/// Why no transcript was made: the bytes are no script, or one that is not run yet, or memory was wanted.
+#[derive(Clone, Copy, Debug, PartialEq, Eq)]
+pub enum NoText {
+    Bad { line: u32, kind: ScriptKind },
+    NotYet,
+    Memory,
+}
+
+impl From<AllocError> for NoText {
+    ghost from_gives = { λ _ e. e ≡ no_text.Memory };
+
+    fn from(_: AllocError) -> NoText {
+        NoText::Memory
+    }
+}
 
 /// The text of the transcript of the script that these bytes are.
-fn transcript_text(alloc: Global, bytes: &[u8]) -> Result<Text, Unread>
-    requires { length bytes.now < 2 ^ 32 }
-    ensures { IfOk result (IsTextOf bytes.now) }
+fn transcript_text(alloc: Global, bytes: &[u8]) -> Result<Text, NoText>
+    ensures text { IfOk result (IsTextOf bytes.now) }
+    ensures none { IfErr result (IsNoText bytes.now) }
 {
-    let transcript = run(alloc, bytes)?;
+    let script = match split(alloc, bytes) {
+        Ok(script) => script,
+        Err(ScriptFault::Bad { line, kind }) => return Err(NoText::Bad { line, kind }),
+        Err(ScriptFault::Memory) => return Err(NoText::Memory),
+    };
+    let transcript = match run(alloc, &script) {
+        Ok(transcript) => transcript,
+        Err(Unread::Form) => return Err(NoText::NotYet),
+        Err(Unread::Memory) => return Err(NoText::Memory),
+    };
     let text = print(alloc, &transcript)?;
     Ok(text)
 }
 
 /// Reads a script from the source, runs it turn by turn, and writes the text of its transcript to the sink. It waits for
-/// nobody. At most 65,537 bytes are read, and the whole text is made before the first write.
+/// nobody. At most 16,777,217 bytes are read, and the whole text is made before the first write.
 pub fn stepped<I: Source, O: Sink>(alloc: Global, source: &mut I, sink: &mut O) -> Status
     ensures means { StepMeans (I.left source.old) (I.left source.new) (I.faults source.old) (I.faults source.new)
         (O.held sink.old) (O.held sink.new) (O.faults sink.old) (O.faults sink.new) result }
@@ -36,13 +62,11 @@ pub fn stepped<I: Source, O: Sink>(alloc: Global, source: &mut I, sink: &mut O) 
         Err(ReadError::Memory) => return Status::Memory,
         Err(ReadError::Failed) => return Status::ReadFault,
     };
-    if bytes.len() > MOST_BYTES {
-        return Status::NotYet;
-    }
     let text = match transcript_text(alloc, bytes.as_slice()) {
         Ok(text) => text,
-        Err(Unread::Form) => return Status::NotYet,
-        Err(Unread::Memory) => return Status::Memory,
+        Err(NoText::Bad { line, kind }) => return Status::BadScript { line, kind },
+        Err(NoText::NotYet) => return Status::NotYet,
+        Err(NoText::Memory) => return Status::Memory,
     };
     match write_all(sink, text.as_bytes()) {
         Ok(()) => Status::Done,

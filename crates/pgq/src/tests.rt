@@ -5,6 +5,7 @@ use crate::status::Status;
 use crate::top::top;
 use crate::words::{Form, form_of};
 use pg_outside::{Failed, MemSink, MemSource};
+use pg_script::ScriptKind;
 use pg_value::{List, Text};
 use std::alloc::{AllocError, Global};
 use std::test::Fail;
@@ -175,17 +176,37 @@ fn statuses_of_runs(rt: HostRuntime) -> Result<(), Fail> {
     Ok(())
 }
 
+/// Blanks alone, one more than a script may have, a fault at a line, and words of no form.
 #[test]
 fn statuses_without_a_run(rt: HostRuntime) -> Result<(), Fail> {
     let alloc = rt.alloc();
-    let long = vec![in alloc; b' '; 65_537]?;
-    for (word, status, number) in [("step", Status::NotYet, 6), ("stop", Status::BadWords, 2)] {
-        let mut from = source(alloc, long.as_slice(), 5000, &[])?;
+    let too_long = Status::BadScript {
+        line: 0,
+        kind: ScriptKind::TooLong,
+    };
+    for (word, count, status, number) in [
+        ("step", 65_537, Status::NotYet, 6),
+        ("step", 16_777_217, too_long, 1),
+        ("stop", 9, Status::BadWords, 2),
+    ] {
+        let blanks = vec![in alloc; b' '; count]?;
+        let mut from = source(alloc, blanks.as_slice(), 5000, &[])?;
         let mut to = sink(alloc, 99, 99, &[])?;
         let answer = top(alloc, &words(alloc, word)?, &mut from, &mut to);
         assert_eq!(rt; answer, status);
         assert_eq!(rt; answer.number(), number);
         assert_eq!(rt; to.bytes(), b"".as_slice());
     }
+    let mut from = source(alloc, b"@session a\n\nAFTER a 1;", 3, &[])?;
+    let mut to = sink(alloc, 99, 99, &[])?;
+    let after = Status::BadScript {
+        line: 3,
+        kind: ScriptKind::AfterName,
+    };
+    assert_eq!(rt;
+        top(alloc, &words(alloc, "step")?, &mut from, &mut to),
+        after
+    );
+    assert_eq!(rt; to.bytes(), b"".as_slice());
     Ok(())
 }
