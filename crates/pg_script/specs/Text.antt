@@ -11,7 +11,7 @@ use Rattle.pg_value.specs.declared.row.Row.{Row}
 use Rattle.pg_value.specs.declared.write.Write.{Write}
 use Rattle.pg_value.specs.declared.write.Commit.{Commit}
 use Rattle.pg_script.specs.declared.outcome.FaultKind.{FaultKind}
-use Rattle.pg_script.specs.declared.outcome.FaultKind.TheVariants.{Syntax, NameTaken, NoTable, NoColumn, KeyMismatch, LabelMismatch, TypeMismatch, Limit, ColumnTwice, Count, KeyUpdate, Types, Wide, NoGraph, NoLabel, NoProperty, Unbounded, Bounds, BadVariable, GroupUse, DefinitionInSession, DefinitionInTransaction}
+use Rattle.pg_script.specs.declared.outcome.FaultKind.TheVariants.{Syntax, NameTaken, NoTable, NoColumn, KeyMismatch, LabelMismatch, TypeMismatch, Limit, ColumnTwice, Count, KeyUpdate, Types, Wide, NoGraph, NoLabel, NoProperty, Unbounded, Bounds, BadVariable, GroupUse, DefinitionInSession, DefinitionInTransaction, NotYet}
 use Rattle.pg_script.specs.declared.outcome.ColumnFault.{ColumnFault}
 use Rattle.pg_script.specs.declared.outcome.ColumnFault.TheVariants.{NullKey, NullNotAllowed, Range, TooLong}
 use Rattle.pg_script.specs.declared.outcome.Outcome.{Outcome}
@@ -84,6 +84,7 @@ fault_word BadVariable = codes "BadVariable"
 fault_word GroupUse = codes "GroupUse"
 fault_word DefinitionInSession = codes "DefinitionInSession"
 fault_word DefinitionInTransaction = codes "DefinitionInTransaction"
+fault_word NotYet = codes "NotYet"
 
 abbrev pub column_fault_word : ColumnFault → List ℕ
 column_fault_word NullKey = codes "NullKey"

@@ -25,6 +25,8 @@ pub enum FaultKind {
     GroupUse,
     DefinitionInSession,
     DefinitionInTransaction,
+    /// A statement of the grammar that is not run yet.
+    NotYet,
 }
 
 /// Why a row of a change was refused at one of its columns.

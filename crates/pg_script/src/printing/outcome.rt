@@ -306,6 +306,7 @@ fn fault_word(kind: FaultKind) -> &'static str
         FaultKind::GroupUse => "GroupUse",
         FaultKind::DefinitionInSession => "DefinitionInSession",
         FaultKind::DefinitionInTransaction => "DefinitionInTransaction",
+        FaultKind::NotYet => "NotYet",
     }
 }
 

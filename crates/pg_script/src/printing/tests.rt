@@ -56,6 +56,7 @@ end rolled back
 31 refused GroupUse at byte 19
 32 refused DefinitionInSession at byte 20
 33 refused DefinitionInTransaction at byte 21
+34 refused NotYet at byte 22
 end
 @log 2
 1 setup from 0
@@ -226,6 +227,7 @@ fn push_at_bytes(outcomes: &mut List<Outcome>) -> Result<(), AllocError> {
         FaultKind::GroupUse,
         FaultKind::DefinitionInSession,
         FaultKind::DefinitionInTransaction,
+        FaultKind::NotYet,
     ];
     for (i, kind) in kinds.iter().enumerate() {
         outcomes.push(Outcome::AtByte {
