@@ -4,3 +4,4 @@ pub mod Agreement
 pub mod Growth
 pub mod Bits
 pub mod EdgeNumbers
+pub mod GraphNames

@@ -1,3 +1,4 @@
 pub mod Passes
 pub mod PropertyRows
 pub mod LookUpPasses
+pub mod GraphProperties

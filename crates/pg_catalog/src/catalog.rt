@@ -1,5 +1,5 @@
 //! The catalog: its look-ups, and the definition of a table.
-ghost use Rattle.std.specs.Prelude.{◌≡◌, [], IfOk, IfErr, OnOk, OnErr, is_some, None, false, ◌++◌, ◌∷◌, position, slice_get};
+ghost use Rattle.std.specs.Prelude.{◌≡◌, [], IfOk, IfErr, OnOk, OnErr, is_some, None, false, ◌++◌, ◌∷◌, position, slice_get, length};
 ghost use Rattle.std.specs.Map.{keys_of};
 ghost use Rattle.std.specs.Option.{option_copied, option_map};
 ghost use Rattle.std.specs.Str.{bytes_eq};
@@ -11,6 +11,7 @@ ghost use Rattle.pg_ast.specs.GraphLookUps as look;
 ghost use Rattle.pg_ast.specs.Labels.{label_tree};
 ghost use Rattle.pg_ast.specs.GraphJudgement as graph_judge;
 ghost use Rattle.pg_ast.specs.Judgement as judge;
+ghost use Rattle.pg_catalog.specs.GraphProperties as property;
 
 use crate::agree::label_mismatch;
 use crate::build::{column_place, entry_of};
@@ -19,6 +20,7 @@ use crate::graph_look::{graph_shape, property_in, tables_of};
 use crate::keys::graph_key_mismatch;
 use crate::limits::graph_limit;
 use crate::missing;
+use crate::names::{PropertyNames, graph_names, no_names};
 use crate::places::{key_mismatch, limit, name_taken, no_column};
 use crate::shapes::{edge_shapes, table_shapes};
 use crate::taken::graph_name_taken;
@@ -126,6 +128,28 @@ impl Catalog {
         match self.graphs.get_index(graph.0 as usize) {
             Some((_, entry)) => property_in(entry, table, name),
             None => None,
+        }
+    }
+
+    /// How many tables are defined.
+    pub fn table_count(&self) -> u32
+        ensures { result ≡ length self.now.0 }
+    {
+        self.tables.len() as u32
+    }
+
+    /// The names of all properties of a graph, collected in one pass over its element tables; none where there is no such
+    /// graph. Only want of memory refuses it.
+    pub fn property_names(
+        &self,
+        alloc: Global,
+        graph: GraphNo,
+    ) -> Result<PropertyNames<'_>, AllocError>
+        ensures { IfOk result (property.AreNamesOf (look.graph_numbered self.now.1 graph)) }
+    {
+        match self.graphs.get_index(graph.0 as usize) {
+            Some((_, entry)) => graph_names(alloc, entry),
+            None => Ok(no_names(alloc)),
         }
     }
 

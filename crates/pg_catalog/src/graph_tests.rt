@@ -302,6 +302,29 @@ fn properties_are_looked_up(rt: HostRuntime) -> Result<(), Fail> {
     Ok(())
 }
 
+#[test]
+fn property_names_are_collected(rt: HostRuntime) -> Result<(), Fail> {
+    let alloc = rt.alloc();
+    let catalog = two_graphs(alloc)?;
+    assert_eq!(rt; catalog.table_count(), 5);
+    let table = [
+        (0u32, "NAME", true),
+        (0, "CLOSED", true),
+        (0, "SINCE", true),
+        (0, "PERSON_ID", false),
+        (0, "B", false),
+        (1, "B", true),
+        (1, "SINCE", false),
+        (2, "NAME", false),
+    ];
+    for (of, text, want) in table {
+        let text = Text::from_str(alloc, text)?;
+        let names = catalog.property_names(alloc, GraphNo(of))?;
+        assert_eq!(rt; names.has(&text), want);
+    }
+    Ok(())
+}
+
 // The numbers of the vertex tables and of the edge tables of a graph's shape.
 fn shape_text(alloc: Global, catalog: &Catalog, of: u32) -> Result<String, AllocError> {
     let shape = catalog.graph_shape(alloc, GraphNo(of))?;

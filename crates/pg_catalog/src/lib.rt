@@ -14,6 +14,7 @@ mod keys;
 mod least;
 mod limits;
 mod missing;
+mod names;
 mod places;
 mod rows;
 mod seen;
@@ -25,3 +26,4 @@ mod tests;
 mod types;
 
 pub use catalog::Catalog;
+pub use names::PropertyNames;
