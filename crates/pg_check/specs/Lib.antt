@@ -1,0 +1,3 @@
+pub mod OneHopCheck
+pub mod HopForm
+pub mod CheckLaws

@@ -1,0 +1,2 @@
+pub mod HopAnswer
+pub mod EdgeRows

@@ -1,0 +1,10 @@
+//! The answer of the query `(x)-[e]->(y)` over lists that hold each table's rows in order of their keys.
+#![tactic(auto)]
+
+mod end;
+mod hop;
+mod row;
+#[cfg(test)]
+mod tests;
+
+pub use hop::hop_rows;

@@ -1,0 +1,6 @@
+mod Literals
+mod Columns
+mod Loops
+mod ValueLaws
+mod RowLaws
+mod EffectLaws

@@ -1,0 +1,3 @@
+pub mod PlainInsert
+pub mod ValuePasses
+pub mod RowPasses

@@ -1,0 +1,113 @@
+//! What is wrong with the values of a row, column by column.
+ghost use Rattle.std.specs.Prelude.{◌≡◌, ◌<◌, ◌^◌, length};
+ghost use Rattle.pg_value.specs.declared.value.Value.TheVariants as values;
+ghost use Rattle.pg_ast.specs.InsertEffect as spec;
+
+use pg_ast::RowFault;
+use pg_value::{ColumnShape, TableShape, Value};
+
+/// The least and the greatest INTEGER.
+const LEAST: i128 = -2147483648;
+
+const GREATEST: i128 = 2147483647;
+
+/// Whether a number is an INTEGER.
+fn is_integer(number: i128) -> bool
+    ensures { result ≡ spec.in_range (values.Int number) }
+{
+    LEAST <= number && number <= GREATEST
+}
+
+/// A number that is no INTEGER, or a text of more bytes than its column may hold.
+fn size_fault(column: &ColumnShape, value: &Value, place: u32) -> Option<RowFault>
+    ensures { result ≡ spec.size_fault column.now value.now place }
+{
+    match value {
+        Value::Int(number) => {
+            if is_integer(*number) {
+                None
+            } else {
+                Some(RowFault::Range { column: place })
+            }
+        }
+        Value::Text(text) => {
+            if text.len() <= column.max_bytes as usize {
+                None
+            } else {
+                Some(RowFault::TooLong { column: place })
+            }
+        }
+        Value::Null | Value::Bool(_) => None,
+    }
+}
+
+fn is_null(value: &Value) -> bool
+    ensures { result ≡ spec.is_null value.now }
+{
+    matches!(value, Value::Null)
+}
+
+/// NULL where it may not stand.
+fn null_fault(is_key: bool, column: &ColumnShape, value: &Value, place: u32) -> Option<RowFault>
+    ensures { result ≡ spec.null_fault is_key column.now value.now place }
+{
+    if is_key {
+        if is_null(value) {
+            return Some(RowFault::NullKey { column: place });
+        }
+        return None;
+    }
+    if is_null(value) && column.not_null {
+        Some(RowFault::NullNotAllowed { column: place })
+    } else {
+        None
+    }
+}
+
+fn is_key(shape: &TableShape, place: u32) -> bool
+    ensures { result ≡ spec.is_key shape.now place }
+{
+    for column in shape.key.as_slice() {
+        if *column == place {
+            return true;
+        }
+    }
+    false
+}
+
+fn value_fault(
+    shape: &TableShape,
+    column: &ColumnShape,
+    value: &Value,
+    place: u32,
+) -> Option<RowFault>
+    ensures { result ≡ spec.value_fault shape.now column.now value.now place }
+{
+    match null_fault(is_key(shape, place), column, value, place) {
+        Some(fault) => Some(fault),
+        None => size_fault(column, value, place),
+    }
+}
+
+/// The first fault of a row's values, in order of the columns.
+pub fn column_fault(shape: &TableShape, row: &[Value]) -> Option<RowFault>
+    requires { length shape.now.columns < 2 ^ 32 }
+    ensures { result ≡ spec.column_fault shape.now 0 shape.now.columns row.now }
+{
+    column_fault_in(shape, shape.columns.as_slice(), row)
+}
+
+fn column_fault_in(shape: &TableShape, columns: &[ColumnShape], row: &[Value]) -> Option<RowFault>
+    requires { length columns.now < 2 ^ 32 }
+    ensures { result ≡ spec.column_fault shape.now 0 columns.now row.now }
+{
+    for (i, column) in columns.iter().enumerate() {
+        let Some(value) = row.get(i) else {
+            return None;
+        };
+        if let Some(fault) = value_fault(shape, column, value, i as u32) {
+            return Some(fault);
+        }
+    }
+    None
+}

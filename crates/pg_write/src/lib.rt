@@ -1,0 +1,19 @@
+//! What an INSERT without a list of columns does, whose values are all literals: where it is refused before it reads the
+//! tables, and the writes that it makes, or its first faulty row.
+#![tactic(auto)]
+
+mod column;
+mod effect;
+mod fault;
+mod least;
+mod plain;
+mod put;
+mod resolve;
+mod row;
+#[cfg(test)]
+mod tests;
+
+pub use effect::insert_rows;
+pub use fault::EffectFault;
+pub use plain::is_plain;
+pub use resolve::resolve_insert;

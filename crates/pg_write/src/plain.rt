@@ -1,0 +1,44 @@
+ghost use Rattle.std.specs.Prelude.{◌≡◌};
+ghost use Rattle.std.specs.List.{list_all};
+ghost use Rattle.pg_ast.specs.Exprs.{tree_of};
+ghost use Rattle.pg_write.specs.PlainInsert as spec;
+
+use pg_ast::{Expr, Insert, InsertTuple, Whole};
+
+fn is_literal(expr: &Expr) -> bool
+    ensures { result ≡ spec.is_literal (tree_of expr.now) }
+{
+    match expr {
+        Expr::Lit { .. } | Expr::TooWide { .. } => true,
+        _ => false,
+    }
+}
+
+fn are_literals(values: &[Whole]) -> bool
+    ensures { result ≡ list_all (λ w. spec.is_literal (tree_of w.expr)) values.now }
+{
+    for value in values {
+        if !is_literal(&value.expr) {
+            return false;
+        }
+    }
+    true
+}
+
+fn have_literals(tuples: &[InsertTuple]) -> bool
+    ensures { result ≡ list_all spec.has_literals tuples.now }
+{
+    for tuple in tuples {
+        if !are_literals(tuple.values.as_slice()) {
+            return false;
+        }
+    }
+    true
+}
+
+/// Whether an INSERT has no list of columns, and each of its values is a literal: a number, a text, TRUE, FALSE or NULL.
+pub fn is_plain(insert: &Insert) -> bool
+    ensures { result ≡ spec.is_plain insert.now }
+{
+    insert.columns.is_none() && have_literals(insert.tuples.as_slice())
+}
