@@ -1,5 +1,5 @@
 -- What the program reads and writes, by its status.
-use Rattle.std.specs.Prelude.{ℕ, ◌≡◌, ◌≤◌, List, length}
+use Rattle.std.specs.Prelude.{ℕ, ◌≡◌, ◌≤◌, ◌<◌, List, length}
 use Rattle.std.specs.declared.option.Option.{Option}
 use Rattle.std.specs.Io.KnownBytes.{Appends, Keeps}
 use Rattle.pg_outside.specs.Causes.{Rose}
@@ -10,25 +10,32 @@ use Rattle.pg_script.specs.declared.fault.ScriptKind.{ScriptKind}
 use Rattle.pg_script.specs.Script.{most_bytes, IsScript, IsScriptFault}
 use Rattle.pgq.specs.Bytes.{ReadsAll, ReadsSome, TookFront}
 use Rattle.pgq.specs.Words.{HasForm, HasNoForm}
-use Rattle.pgq.specs.Setup.{IsRunOf}
+use Rattle.pgq.specs.Sections.{IsRun}
 use Rattle.pgq.specs.declared.words.Form.TheVariants.{Step}
 use Rattle.pgq.specs.declared.step.NoText.{NoText}
 use Rattle.pgq.specs.declared.step.NoText.TheVariants as no_text
 use Rattle.pgq.specs.declared.status.Status.{Status}
 use Rattle.pgq.specs.declared.status.Status.TheVariants.{Done, BadScript, BadWords, ReadFault, WriteFault, Memory, NotYet}
 
--- the text is that of a transcript of the script which these bytes are: the transcript of its stepped run, which is legal
+-- the transcript is of the script which these bytes are, and which has at most one session: of its stepped run, which is legal
+pub record IsRunOf (bytes : List ℕ) (t : Transcript) : Type 0 where
+  pub script : Script
+  pub is_script : IsScript bytes script
+  pub one_session : length script.sections ≤ 2
+  pub run : IsRun script t
+
+-- the text is that of such a transcript
 abbrev pub IsTextOf : List ℕ → List ℕ → Type 0
 IsTextOf bytes text = (t : Transcript) × IsRunOf bytes t × (text ≡ text_of t)
 
--- the bytes are a script
-abbrev pub IsSomeScript : List ℕ → Type 0
-IsSomeScript bytes = (script : Script) × IsScript bytes script
+-- the bytes are a script of two or more sessions
+abbrev pub HasSessions : List ℕ → Type 0
+HasSessions bytes = (script : Script) × IsScript bytes script × (2 < length script.sections)
 
 -- why no text was made of the bytes of an input
 abbrev pub IsNoText : List ℕ → NoText → Type 0
 IsNoText bytes (no_text.Bad line kind) = IsScriptFault bytes line kind
-IsNoText bytes no_text.NotYet = IsSomeScript bytes
+IsNoText bytes no_text.NotYet = HasSessions bytes
 IsNoText bytes no_text.Memory = Unit {0}
 
 -- the source was read to its end, and the text is one of what was read
@@ -38,11 +45,11 @@ pub record LegalRun (before after : Option (List ℕ)) (text : List ℕ) : Type 
   pub short : length bytes ≤ most_bytes
   pub is_text : IsTextOf bytes text
 
--- The source was read to its end, and the bytes are a script that is not run yet. Which scripts these are is free.
+-- the source was read to its end, and the bytes are a script of two or more sessions, which is not run yet
 pub record ReadsNoRun (before after : Option (List ℕ)) : Type 0 where
   pub bytes : List ℕ
   pub read : ReadsAll most_bytes before after bytes
-  pub is_script : IsSomeScript bytes
+  pub sessions : HasSessions bytes
 
 -- What was read is no script, by this fault: all of the source, or one byte more than a script may have.
 pub record ReadsNoScript (before after : Option (List ℕ)) (line : ℕ) (kind : ScriptKind) : Type 0 where

@@ -1,230 +1,166 @@
--- What the statements of this stage mean: how they are read, and what the catalog, a change and a query make of them.
-use Rattle.std.specs.Prelude.{ℕ, pos, ◌≡◌, ◌≢◌, ◌-◌, ◌≤◌, ◌<◌, ◌^◌, true, false, List, [], ◌∷◌, ◌++◌, map, length, take, drop, slice_get, position}
-use Rattle.std.specs.declared.option.Option.{Option}
+-- What the statements that run mean: how they are read, and what the catalog, a change and a query make of them.
+use Rattle.std.specs.Prelude.{ℕ, ◌≡◌, cond, List, [], map, length, slice_get}
 use Rattle.std.specs.declared.option.Option.TheVariants.{Some, None}
-use Rattle.std.specs.List.{AllZip}
-use Rattle.std.specs.Str.{bytes_eq}
-use Rattle.pg_keyed.specs.Keyed.{Each}
-use Rattle.pg_value.specs.declared.value.Kind.TheVariants as kind
-use Rattle.pg_value.specs.declared.value.Value.{Value}
-use Rattle.pg_value.specs.declared.value.Value.TheVariants.{Int}
-use Rattle.pg_value.specs.declared.shape.ColumnShape.{ColumnShape}
+use Rattle.std.specs.Option.{unwrap_or}
+use Rattle.pg_value.specs.declared.row.Row.{Row}
+use Rattle.pg_value.specs.declared.shape.TableNo.{TableNo}
 use Rattle.pg_value.specs.declared.shape.TableShape.{TableShape}
-use Rattle.pg_value.specs.declared.shape.TableSet.{TableSet}
-use Rattle.pg_value.specs.declared.shape.EdgeShape.{EdgeShape}
-use Rattle.pg_value.specs.declared.shape.GraphShape.{GraphShape}
-use Rattle.pg_value.specs.declared.shape.Shapes.{Shapes}
 use Rattle.pg_value.specs.declared.write.Write.{Write}
-use Rattle.pg_value.specs.Writes.{named, merge}
-use Rattle.pg_value.specs.Tables.{Tables, stored_at}
-use Rattle.pg_lex.specs.declared.token.Token.{Token}
-use Rattle.pg_lex.specs.Tokens.{Tokens}
-use Rattle.pg_ast.specs.declared.checked.CExpr.TheVariants.{Property}
-use Rattle.pg_ast.specs.declared.checked.CheckedColumn.{CheckedColumn}
+use Rattle.pg_value.specs.Tables.{Tables}
+use Rattle.pg_ast.specs.declared.define.Define.{Define}
+use Rattle.pg_ast.specs.declared.define.Define.TheVariants as definitions
+use Rattle.pg_ast.specs.declared.statement.Insert.{Insert}
+use Rattle.pg_ast.specs.declared.statement.Statement.{Statement}
+use Rattle.pg_ast.specs.declared.statement.Statement.TheVariants as statements
+use Rattle.pg_ast.specs.declared.pattern.Query.{Query}
+use Rattle.pg_ast.specs.declared.checked.CheckedChange.{CheckedChange}
+use Rattle.pg_ast.specs.declared.checked.CheckedChange.TheVariants as changes
 use Rattle.pg_ast.specs.declared.checked.CheckedQuery.{CheckedQuery}
-use Rattle.pg_ast.specs.OneHop.{one_hop_query}
+use Rattle.pg_ast.specs.declared.fault.DefineFault.{DefineFault}
+use Rattle.pg_ast.specs.declared.fault.DefineFault.TheVariants as define
+use Rattle.pg_ast.specs.declared.fault.ResolveFault.{ResolveFault}
+use Rattle.pg_ast.specs.declared.fault.ResolveFault.TheVariants as resolve
+use Rattle.pg_ast.specs.declared.change.RowFault.{RowFault}
+use Rattle.pg_ast.specs.declared.change.RowFault.TheVariants as row_faults
+use Rattle.pg_ast.specs.CatalogEntries.{Defined}
+use Rattle.pg_ast.specs.CatalogLookUps.{column_name_at}
+use Rattle.pg_ast.specs.EntryShapes.{shapes}
+use Rattle.pg_ast.specs.Judgement.{define_fault, with_definition}
+use Rattle.pg_ast.specs.InsertJudgement.{insert_fault, resolved_insert}
+use Rattle.pg_ast.specs.InsertEffect.{row_of, with_rows, IsFirstFault, AreRight}
 use Rattle.pg_ast.specs.Answers.{Answer, column_names}
 use Rattle.pg_script.specs.declared.script.Item.{Item}
 use Rattle.pg_script.specs.declared.script.Item.TheVariants.{Sql, After}
-use Rattle.pg_script.specs.Judged.{Reading, Unread, Begins, Commits, RollsBack, Defines, Changes, Asks, Waits, Ruling, Fine, Effect, Done, Judges}
-use Rattle.pgq.specs.declared.form.TableForm.{TableForm}
-use Rattle.pgq.specs.declared.form.GraphForm.{GraphForm}
-use Rattle.pgq.specs.declared.form.NumberForm.{NumberForm}
-use Rattle.pgq.specs.declared.form.InsertForm.{InsertForm}
-use Rattle.pgq.specs.declared.form.ColumnForm.{ColumnForm}
-use Rattle.pgq.specs.declared.form.QueryForm.{QueryForm}
-use Rattle.pgq.specs.Form.{kinds, IsTable, IsGraph, IsInsert, IsQuery}
+use Rattle.pg_script.specs.declared.outcome.FaultKind.{FaultKind}
+use Rattle.pg_script.specs.declared.outcome.FaultKind.TheVariants as kinds
+use Rattle.pg_script.specs.declared.outcome.ColumnFault.TheVariants as column_faults
+use Rattle.pg_script.specs.Judged.{Reading, Unread, Defines, Changes, Asks, Ruling, Faulty, Fine, Refusal, IsDuplicate, IsTooMany, IsAtColumn, Effect, Stopped, Done, Judges}
+use Rattle.pg_read.specs.declared.parsed.Parsed.{Parsed}
+use Rattle.pg_read.specs.declared.parsed.Parsed.TheVariants as parsed
+use Rattle.pg_read.specs.Parsed.{IsParsedOf}
+use Rattle.pg_write.specs.PlainInsert.{is_plain}
+use Rattle.pg_check.specs.declared.fault.CheckFault.{CheckFault}
+use Rattle.pg_check.specs.declared.fault.CheckFault.TheVariants as check
+use Rattle.pg_check.specs.OneHopCheck.{is_one_hop, check_fault, IsCheckedOf}
 
 -- READING
 
--- the bytes of the text from one place up to another
-abbrev pub part_of : List ℕ → ℕ → ℕ → List ℕ
-part_of text from to = take (to - from) (drop from text)
+-- an INSERT without a list of columns whose values are literals is run
+abbrev pub says_insert : ℕ → Insert → Reading Define Insert Query
+says_insert at i = cond (is_plain i) (Changes i) (Unread kinds.NotYet at)
 
--- the tokens of an item's statement, and the place where it begins
-pub record IsRead (text : List ℕ) (item : Item) (tokens : List Token) (from : ℕ) : Type 0 where
-  pub to : ℕ
-  pub is_item : item ≡ Sql from to
-  pub lexed : Tokens from (part_of text from to) tokens
+-- a query of one edge whose columns are plain properties is run
+abbrev pub says_query : ℕ → Query → Reading Define Insert Query
+says_query at q = cond (is_one_hop q) (Asks q) (Unread kinds.NotYet at)
 
--- where an item's statement begins
-abbrev pub start_of : Item → ℕ
-start_of (Sql from to) = from
-start_of (After section n) = 0
+-- what a statement says, which begins at a place; one that is not run yet is refused there
+abbrev pub says : ℕ → Statement → Reading Define Insert Query
+says at (statements.Define d) = Defines d at
+says at (statements.Insert i) = says_insert at i
+says at (statements.Query q) = says_query at q
+says at (statements.Update u) = Unread kinds.NotYet at
+says at (statements.Delete d) = Unread kinds.NotYet at
+says at statements.Begin = Unread kinds.NotYet at
+says at statements.Commit = Unread kinds.NotYet at
+says at statements.Rollback = Unread kinds.NotYet at
 
-pub data Definition : Type 0 where
-  OfTable : (t : TableForm) → Definition
-  OfGraph : (g : GraphForm) → Definition
+abbrev pub reading_of : Parsed → Reading Define Insert Query
+reading_of (parsed.Statement tree at) = says at tree
+reading_of (parsed.Fault at) = Unread kinds.Syntax at
 
--- THE CATALOG
+-- an item of a script of this text. AFTER is not run yet: a script of one session has none.
+abbrev pub reads : List ℕ → Item → Reading Define Insert Query → Type 0
+reads text (Sql from to) r = (p : Parsed) × IsParsedOf text from to p × (r ≡ reading_of p)
+reads text (After section n) r = ⊥
 
--- a graph of one vertex table and one edge table, by their numbers, and the places of the edge table's end columns
-pub record GraphEntry : Type 0 where
-  pub name : List ℕ
-  pub vertex : ℕ
-  pub edge : ℕ
-  pub source : ℕ
-  pub dest : ℕ
+-- DEFINITIONS
 
-pub record Catalog : Type 0 where
-  pub tables : List TableForm
-  pub graphs : List GraphEntry
+abbrev pub name_of : Define → List ℕ
+name_of (definitions.Table t) = t.name.text
+name_of (definitions.Graph g) = g.name.text
 
-abbrev pub nothing : Catalog
-nothing = record { tables = []; graphs = [] }
+-- a fault's kind and place; want of memory is none
+abbrev pub IsDefineFault : DefineFault → FaultKind → ℕ → Type 0
+IsDefineFault (define.NameTaken p) kind at = (kind ≡ kinds.NameTaken) × (at ≡ p)
+IsDefineFault (define.NoTable p) kind at = (kind ≡ kinds.NoTable) × (at ≡ p)
+IsDefineFault (define.NoColumn p) kind at = (kind ≡ kinds.NoColumn) × (at ≡ p)
+IsDefineFault (define.KeyMismatch p) kind at = (kind ≡ kinds.KeyMismatch) × (at ≡ p)
+IsDefineFault (define.LabelMismatch p) kind at = (kind ≡ kinds.LabelMismatch) × (at ≡ p)
+IsDefineFault (define.TypeMismatch p) kind at = (kind ≡ kinds.TypeMismatch) × (at ≡ p)
+IsDefineFault (define.Limit p) kind at = (kind ≡ kinds.Limit) × (at ≡ p)
+IsDefineFault define.Memory kind at = ⊥
 
--- no table and no graph has the name
-abbrev pub IsFree : Catalog → List ℕ → Type 0
-IsFree k name = Each (λ t. t.name ≢ name) k.tables × Each (λ g. g.name ≢ name) k.graphs
-
--- names that differ
-abbrev pub Differ : List (List ℕ) → Type 0
-Differ [] = Unit {0}
-Differ (x ∷ xs) = Each (λ y. x ≢ y) xs × Differ xs
-
--- a table of a new name, with 1 to 32 columns of different names
-pub record IsNewTable (k : Catalog) (t : TableForm) : Type 0 where
-  pub free : IsFree k t.name
-  pub some : 0 < length t.columns
-  pub few : length t.columns ≤ 32
-  pub differ : Differ t.columns
-
-abbrev pub with_table : Catalog → TableForm → Catalog
-with_table k t = record k { tables = k.tables ++ t ∷ [] }
-
--- the table with this number has this name
-abbrev pub IsTableAt : Catalog → ℕ → List ℕ → TableForm → Type 0
-IsTableAt k n name t = (slice_get k.tables n ≡ Some t) × (t.name ≡ name)
-
--- a graph of a new name over two tables, whose key is the vertex table's and whose end columns are the edge table's
-pub record IsNewGraph (k : Catalog) (g : GraphForm) (entry : GraphEntry) : Type 0 where
-  pub free : IsFree k g.name
-  pub named : entry.name ≡ g.name
-  pub vertex : TableForm
-  pub edge : TableForm
-  pub vertex_at : IsTableAt k entry.vertex g.vertex vertex
-  pub edge_at : IsTableAt k entry.edge g.edge edge
-  pub differ : entry.vertex ≢ entry.edge
-  pub key : slice_get vertex.columns 0 ≡ Some g.key
-  pub source : slice_get edge.columns entry.source ≡ Some g.source
-  pub dest : slice_get edge.columns entry.dest ≡ Some g.dest
-
-abbrev pub with_graph : Catalog → GraphEntry → Catalog
-with_graph k entry = record k { graphs = k.graphs ++ entry ∷ [] }
-
-abbrev pub defines : Catalog → Definition → Ruling (List ℕ × Catalog) → Type 0
-defines k (OfTable t) r = IsNewTable k t × (r ≡ Fine (t.name, with_table k t))
-defines k (OfGraph g) r = (entry : GraphEntry) × IsNewGraph k g entry × (r ≡ Fine (g.name, with_graph k entry))
-
--- an INTEGER column; only the key may not be NULL
-abbrev pub key_shape : ColumnShape
-key_shape = record { kind = kind.Int; not_null = true; max_bytes = 0 }
-
-abbrev pub column_shape : List ℕ → ColumnShape
-column_shape name = record { kind = kind.Int; not_null = false; max_bytes = 0 }
-
-abbrev pub column_shapes : List (List ℕ) → List ColumnShape
-column_shapes [] = []
-column_shapes (key ∷ columns) = key_shape ∷ map column_shape columns
-
-abbrev pub table_shape : TableForm → TableShape
-table_shape t = record { columns = column_shapes t.columns; key = 0 ∷ [] }
-
-abbrev pub edge_shape : GraphEntry → EdgeShape
-edge_shape g = record {
-  table = record { 0 = g.edge };
-  source = record { 0 = g.vertex };
-  source_columns = g.source ∷ [];
-  dest = record { 0 = g.vertex };
-  dest_columns = g.dest ∷ [];
-}
-
-abbrev pub shapes_of : Catalog → Shapes
-shapes_of k = record { tables = map table_shape k.tables; edges = map edge_shape k.graphs }
+abbrev pub defines : Defined → Define → Ruling (List ℕ × Defined) → Type 0
+defines d definition (Faulty kind at) = (f : DefineFault) × (define_fault d definition ≡ Some f) × IsDefineFault f kind at
+defines d definition (Fine x) = (define_fault d definition ≡ None) × (x ≡ (name_of definition, with_definition d definition))
 
 -- CHANGES
 
-abbrev pub values_of : List NumberForm → List Value
-values_of numbers = map (λ n. Int (pos n.value)) numbers
+abbrev pub IsResolveFault : ResolveFault → FaultKind → ℕ → Type 0
+IsResolveFault (resolve.NoTable p) kind at = (kind ≡ kinds.NoTable) × (at ≡ p)
+IsResolveFault (resolve.NoColumn p) kind at = (kind ≡ kinds.NoColumn) × (at ≡ p)
+IsResolveFault (resolve.ColumnTwice p) kind at = (kind ≡ kinds.ColumnTwice) × (at ≡ p)
+IsResolveFault (resolve.Count p) kind at = (kind ≡ kinds.Count) × (at ≡ p)
+IsResolveFault (resolve.KeyUpdate p) kind at = (kind ≡ kinds.KeyUpdate) × (at ≡ p)
+IsResolveFault (resolve.Types p) kind at = (kind ≡ kinds.Types) × (at ≡ p)
+IsResolveFault (resolve.Wide p) kind at = (kind ≡ kinds.Wide) × (at ≡ p)
+IsResolveFault resolve.Memory kind at = ⊥
 
--- the write of a row of numbers, the first of which is its key
-abbrev pub row_write : ℕ → List NumberForm → Write
-row_write table numbers = record {
-  table = record { 0 = table };
-  key = record { values = take 1 (values_of numbers) };
-  row = Some (record { values = values_of numbers });
-}
+abbrev pub resolves : Defined → Insert → Ruling CheckedChange → Type 0
+resolves d i (Faulty kind at) = (f : ResolveFault) × (insert_fault d.0 i ≡ Some f) × IsResolveFault f kind at
+resolves d i (Fine x) = (insert_fault d.0 i ≡ None) × (x ≡ resolved_insert d.0 i)
 
--- one number for each column of the table
-abbrev pub resolves : Catalog → InsertForm → Ruling Write → Type 0
-resolves k i r = (n : ℕ) × (t : TableForm) × IsTableAt k n i.table t × (length i.numbers ≡ length t.columns) × (r ≡ Fine (row_write n i.numbers))
+-- how many writes a transaction may have
+abbrev pub most_of_one : ℕ
+most_of_one = 1048576
 
--- a row whose key is not there is written
-abbrev pub affects : Catalog → Tables → List Write → Write → Effect → Type 0
-affects k tables writes w e = (stored_at (named w) tables ≡ None) × (e ≡ Done (merge writes (w ∷ [])) 1)
+abbrev pub column_called : Defined → TableNo → ℕ → List ℕ
+column_called d table column = unwrap_or (column_name_at d table column) []
+
+-- what a row's fault is called
+abbrev pub refusal_of : Defined → TableNo → ℕ → RowFault → Refusal
+refusal_of d table row (row_faults.NullKey column) = IsAtColumn column_faults.NullKey row (column_called d table column)
+refusal_of d table row (row_faults.NullNotAllowed column) = IsAtColumn column_faults.NullNotAllowed row (column_called d table column)
+refusal_of d table row (row_faults.Range column) = IsAtColumn column_faults.Range row (column_called d table column)
+refusal_of d table row (row_faults.TooLong column) = IsAtColumn column_faults.TooLong row (column_called d table column)
+refusal_of d table row row_faults.Duplicate = IsDuplicate row
+refusal_of d table row row_faults.TooManyWrites = IsTooMany row
+
+-- rows are put into a table: the first faulty one, or the writes then
+abbrev pub IsInserted : Defined → Tables → List Write → TableNo → TableShape → List Row → Effect → Type 0
+IsInserted d tables ws table shape rows (Stopped refusal) =
+    (row : ℕ) × (fault : RowFault) × IsFirstFault most_of_one table shape tables ws rows row fault × (refusal ≡ refusal_of d table row fault)
+IsInserted d tables ws table shape rows (Done ws' n) = AreRight most_of_one table shape tables ws rows × (ws' ≡ with_rows table shape ws rows) × (n ≡ length rows)
+
+abbrev pub affects : Defined → Tables → List Write → CheckedChange → Effect → Type 0
+affects d tables ws (changes.Insert table columns tuples) e =
+    (shape : TableShape) × (slice_get (shapes d).tables table.0 ≡ Some shape) × IsInserted d tables ws table shape (map (row_of shape columns) tuples) e
+affects d tables ws (changes.Update table sets condition) e = ⊥
+affects d tables ws (changes.Delete table condition) e = ⊥
 
 -- QUERIES
 
--- the tables of the three variables: source, edge, destination
-abbrev pub tables_of : GraphEntry → List ℕ
-tables_of g = g.vertex ∷ g.edge ∷ g.vertex ∷ []
+abbrev pub IsCheckFault : CheckFault → FaultKind → ℕ → Type 0
+IsCheckFault (check.NoGraph p) kind at = (kind ≡ kinds.NoGraph) × (at ≡ p)
+IsCheckFault (check.NoProperty p) kind at = (kind ≡ kinds.NoProperty) × (at ≡ p)
+IsCheckFault (check.BadVariable p) kind at = (kind ≡ kinds.BadVariable) × (at ≡ p)
+IsCheckFault (check.Limit p) kind at = (kind ≡ kinds.Limit) × (at ≡ p)
+IsCheckFault check.Memory kind at = ⊥
 
--- the place of a column in a table, where it has one of this name
-abbrev pub place_of : List ℕ → TableForm → Option ℕ
-place_of name t = position (λ c. bytes_eq name c) t.columns
-
--- `var.property AS name`: variable x of the pattern, whose table has the column
-pub record IsItem (k : Catalog) (g : GraphEntry) (q : QueryForm) (c : ColumnForm) (column : CheckedColumn) : Type 0 where
-  pub x : ℕ
-  pub n : ℕ
-  pub table : TableForm
-  pub place : ℕ
-  pub var : slice_get (q.source ∷ q.edge ∷ q.dest ∷ []) x ≡ Some c.var
-  pub table_no : slice_get (tables_of g) x ≡ Some n
-  pub table_at : slice_get k.tables n ≡ Some table
-  pub has : place_of c.property table ≡ Some place
-  pub checked : column ≡ record { expr = Property x (map (place_of c.property) k.tables); name = c.name; kind = Some kind.Int; width = 31 }
-
-abbrev pub set_of : ℕ → TableSet
-set_of n = record { 0 = 2 ^ n }
-
-abbrev pub graph_shape : ℕ → GraphEntry → GraphShape
-graph_shape n g = record { vertices = record { 0 = g.vertex } ∷ []; edges = record { 0 = n } ∷ [] }
-
--- a query over an existing graph, with three different variables and 1 to 32 columns
-pub record IsQueryOf (k : Catalog) (q : QueryForm) (y : CheckedQuery) : Type 0 where
-  pub n : ℕ
-  pub g : GraphEntry
-  pub graph_at : slice_get k.graphs n ≡ Some g
-  pub graph_named : g.name ≡ q.graph
-  pub differ : Differ (q.source ∷ q.edge ∷ q.dest ∷ [])
-  pub some : 0 < length q.columns
-  pub few : length q.columns ≤ 32
-  pub columns : List CheckedColumn
-  pub items : AllZip (IsItem k g q) q.columns columns
-  pub checked : y ≡ one_hop_query (graph_shape n g) (set_of g.vertex) (set_of g.edge) columns
+abbrev pub checks : Defined → Query → Ruling CheckedQuery → Type 0
+checks d q (Faulty kind at) = (f : CheckFault) × (check_fault d q ≡ Some f) × IsCheckFault f kind at
+checks d q (Fine y) = (check_fault d q ≡ None) × IsCheckedOf d q y
 
 -- THE WHOLE
 
-abbrev pub reads : List ℕ → Item → Reading Definition InsertForm QueryForm → Type 0
-reads text item (Unread fault byte) = ⊥
-reads text item Begins = ⊥
-reads text item Commits = ⊥
-reads text item RollsBack = ⊥
-reads text item (Defines (OfTable t) byte) = (tokens : List Token) × IsRead text item tokens byte × IsTable (kinds tokens) t
-reads text item (Defines (OfGraph g) byte) = (tokens : List Token) × IsRead text item tokens byte × IsGraph (kinds tokens) g
-reads text item (Changes i) = (tokens : List Token) × (from : ℕ) × IsRead text item tokens from × IsInsert (kinds tokens) i
-reads text item (Asks q) = (tokens : List Token) × (from : ℕ) × IsRead text item tokens from × IsQuery (kinds tokens) q
-reads text item (Waits name m i) = ⊥
-
-abbrev pub language : List ℕ → Judges Catalog Definition InsertForm QueryForm Write CheckedQuery
+abbrev pub language : List ℕ → Judges Defined Define Insert Query CheckedChange CheckedQuery
 language text = record {
   reads = reads text;
   defines = defines;
   resolves = resolves;
-  checks = λ k q r. (y : CheckedQuery) × IsQueryOf k q y × (r ≡ Fine y);
+  checks = checks;
   affects = affects;
-  answers = λ k tables y rows. Answer (shapes_of k) tables y rows;
+  answers = λ d tables y rows. Answer (shapes d) tables y rows;
   columns = column_names;
-  tables = λ k. map (λ t. t.name) k.tables;
+  tables = λ d. map (λ t. t.0) d.0;
 }

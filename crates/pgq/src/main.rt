@@ -3,15 +3,15 @@
 
 ghost use Rattle.std.specs.Prelude.{◌≡◌, ◌⊎◌, IfErr};
 
+mod asking;
 mod bytes;
-mod catalog;
-mod cursor;
-mod form;
-mod hop;
-mod names;
-mod query;
+mod commit;
+mod definition;
+mod engine;
+mod insertion;
+mod refusal;
+mod rows;
 mod run;
-mod setup;
 mod statement;
 mod status;
 mod step;

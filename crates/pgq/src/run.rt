@@ -1,110 +1,158 @@
-ghost use Rattle.std.specs.Prelude.{◌≡◌, ◌<◌, ◌^◌, [], ◌∷◌, length, true, false, IfOk, IsTrue, codes};
-ghost use Rattle.pgq.specs.Setup.{IsTranscriptOf, HasRun, HasRunOf};
+//! The run of a script of a setup and at most one session.
+ghost use Rattle.std.specs.Prelude.{◌≡◌, ◌<◌, ◌^◌, map, length, slice_get, IfOk, OnOk};
+ghost use Rattle.std.specs.Option.{option_map};
+ghost use Rattle.std.specs.declared.option.Option.TheVariants.{Some};
+ghost use Rattle.pg_keyed.specs.Keyed.{Each};
+ghost use Rattle.pgq.specs.Engine.{IsReady, Answers};
+ghost use Rattle.pgq.specs.Sections.{IsStatementIn, IsRunnable, HasAnswered, IsRun};
+ghost use Rattle.pgq.specs.Sectioned.{HasRunSection, HaveRun};
 
-use crate::cursor::{Unread, at};
-use crate::query::answer;
-use crate::setup::{Setup, run_setup};
-use pg_script::{Outcome, Script, Section, SectionOut, Transcript};
-use pg_value::{List, Text};
-use std::alloc::Global;
+use crate::engine::Engine;
+use crate::statement::answer;
+use pg_catalog::Catalog;
+use pg_script::{Item, Outcome, Script, Section, SectionOut, Transcript};
+use pg_value::{List, TableNo, Text};
+use std::alloc::{AllocError, Global};
 
-/// A section's answers, with no transaction open at its end.
-fn section_out(name: Text, outcomes: List<Outcome>) -> SectionOut
-    ensures { result ≡ record { name = name; outcomes = outcomes; rolled_back = false } }
+fn answer_item(
+    alloc: Global,
+    text: &Text,
+    engine: &mut Engine,
+    section: u32,
+    item: &Item,
+) -> Result<Outcome, AllocError>
+    requires length { length text.now < 2 ^ 32 }
+    requires statement { IsStatementIn text.now item.now }
+    requires ready { IsReady engine.old }
+    ensures ready { OnOk result (IsReady engine.new) }
+    ensures answers { IfOk result (λ o. Answers text.now section engine.old item.now o engine.new) }
 {
-    SectionOut {
+    match *item {
+        Item::Sql { from, to } => answer(alloc, text, engine, section, from, to),
+        Item::After { .. } => unreachable!(),
+    }
+}
+
+/// Answers the items of a section in order.
+fn answer_items(
+    alloc: Global,
+    text: &Text,
+    engine: &mut Engine,
+    section: u32,
+    items: &[Item],
+) -> Result<List<Outcome>, AllocError>
+    requires length { length text.now < 2 ^ 32 }
+    requires statements { Each (IsStatementIn text.now) items.now }
+    requires ready { IsReady engine.old }
+    ensures ready { OnOk result (IsReady engine.new) }
+    ensures answered { IfOk result (λ outs. HasAnswered text.now section items.now engine.old outs engine.new) }
+    ensures all { IfOk result (λ outs. length outs ≡ length items.now) }
+{
+    let mut outcomes = List::new(alloc);
+    'items: for item in items {
+        match answer_item(alloc, text, engine, section, item) {
+            Ok(outcome) => match outcomes.push(outcome) {
+                Ok(()) => {}
+                Err(failed) => return Err(failed),
+            },
+            Err(failed) => return Err(failed),
+        }
+    }
+    Ok(outcomes)
+}
+
+/// Runs a section, by its number, to its end.
+fn run_section(
+    alloc: Global,
+    script: &Script,
+    engine: &mut Engine,
+    number: u32,
+    section: &Section,
+) -> Result<SectionOut, AllocError>
+    requires runnable { IsRunnable script.now }
+    requires stands { slice_get script.now.sections number ≡ Some section.now }
+    requires ready { IsReady engine.old }
+    ensures ready { OnOk result (IsReady engine.new) }
+    ensures run { IfOk result (λ out. HasRunSection script.now number section.now engine.old out engine.new) }
+{
+    let name = section.name.copy(alloc)?;
+    let outcomes = answer_items(
+        alloc,
+        &script.text,
+        engine,
+        number,
+        section.items.as_slice(),
+    )?;
+    Ok(SectionOut {
         name,
         outcomes,
         rolled_back: false,
-    }
-}
-
-fn sections_of(
-    alloc: Global,
-    outcomes: List<Outcome>,
-    name: Text,
-    answer: Outcome,
-) -> Result<List<SectionOut>, Unread>
-    ensures { IfOk result (λ sections. sections ≡ record { name = codes "setup"; outcomes = outcomes; rolled_back = false } ∷ record { name = name; outcomes = answer ∷ []; rolled_back = false } ∷ []) }
-{
-    let mut answers = List::new(alloc);
-    answers.push(answer)?;
-    let setup = section_out(Text::from_str(alloc, "setup")?, outcomes);
-    let session = section_out(name, answers);
-    let mut sections = List::new(alloc);
-    sections.push(setup)?;
-    sections.push(session)?;
-    Ok(sections)
-}
-
-fn names_of(alloc: Global, setup: &Setup) -> Result<List<Text>, Unread>
-    ensures { IfOk result (λ names. names ≡ setup.now.vertex.name ∷ setup.now.edge.name ∷ []) }
-{
-    let mut names = List::new(alloc);
-    names.push(setup.vertex.name.copy(alloc)?)?;
-    names.push(setup.edge.name.copy(alloc)?)?;
-    Ok(names)
-}
-
-/// The transcript of a setup and of a session's one answer.
-fn transcript_of(
-    alloc: Global,
-    setup: Setup,
-    name: Text,
-    answer: Outcome,
-) -> Result<Transcript, Unread>
-    ensures { IfOk result (IsTranscriptOf setup name answer) }
-{
-    let tables = names_of(alloc, &setup)?;
-    let sections = sections_of(alloc, setup.outcomes, name, answer)?;
-    Ok(Transcript {
-        has_setup: true,
-        sections,
-        tables,
-        log: setup.log,
-        peak: (1, 0),
     })
 }
 
+/// Runs all sections, one after another.
 fn run_sections(
     alloc: Global,
-    text: &[u8],
-    setup: &Section,
-    session: &Section,
-) -> Result<Transcript, Unread>
-    requires { length text.now < 2 ^ 32 }
-    ensures { IfOk result (HasRun text.now setup.now session.now) }
+    script: &Script,
+    engine: &mut Engine,
+) -> Result<List<SectionOut>, AllocError>
+    requires runnable { IsRunnable script.now }
+    requires ready { IsReady engine.old }
+    ensures { IfOk result (λ outs. HaveRun script.now script.now.sections engine.old outs engine.new) }
 {
-    let done = run_setup(alloc, text, &setup.items)?;
-    if session.items.len() != 1 {
-        return Err(Unread::Form);
+    let mut outs = List::new(alloc);
+    'sections: for (i, section) in script.sections.as_slice().iter().enumerate() {
+        match run_section(alloc, script, engine, i as u32, section) {
+            Ok(out) => match outs.push(out) {
+                Ok(()) => {}
+                Err(failed) => return Err(failed),
+            },
+            Err(failed) => return Err(failed),
+        }
     }
-    let item = at(&session.items, 0)?;
-    let outcome = answer(alloc, text, item, &done)?;
-    let name = session.name.copy(alloc)?;
-    let transcript = transcript_of(alloc, done, name, outcome)?;
-    Ok(transcript)
+    Ok(outs)
 }
 
-/// Whether a script has a setup and one session, and no order.
-fn has_form(script: &Script) -> bool
-    ensures setup { IsTrue result → script.now.has_setup ≡ true }
-    ensures order { IsTrue result → script.now.order ≡ [] }
-    ensures two { IsTrue result → length script.now.sections ≡ 2 }
+fn table_name(alloc: Global, catalog: &Catalog, table: u32) -> Result<Text, AllocError>
+    requires { table < length catalog.now.0 }
+    ensures { IfOk result (λ name. option_map (λ t. t.0) (slice_get catalog.now.0 table) ≡ Some name) }
 {
-    script.has_setup && script.order.is_empty() && script.sections.len() == 2
+    match catalog.table_name(TableNo(table)) {
+        Some(name) => name.copy(alloc),
+        None => unreachable!(),
+    }
 }
 
-/// Runs a script: the transcript of its stepped run. `Unread::Form` says that it is not run yet.
-pub fn run(alloc: Global, script: &Script) -> Result<Transcript, Unread>
-    requires { length script.now.text < 2 ^ 32 }
-    ensures { IfOk result (HasRunOf script.now) }
+/// The names of all tables, by their numbers.
+fn table_names(alloc: Global, catalog: &Catalog) -> Result<List<Text>, AllocError>
+    ensures { IfOk result (λ names. names ≡ map (λ t. t.0) catalog.now.0) }
 {
-    if !has_form(script) {
-        return Err(Unread::Form);
+    let mut names = List::new(alloc);
+    'tables: for table in 0..catalog.table_count() {
+        match table_name(alloc, catalog, table) {
+            Ok(name) => match names.push(name) {
+                Ok(()) => {}
+                Err(failed) => return Err(failed),
+            },
+            Err(failed) => return Err(failed),
+        }
     }
-    let setup = at(&script.sections, 0)?;
-    let session = at(&script.sections, 1)?;
-    let transcript = run_sections(alloc, script.text.as_bytes(), setup, session)?;
-    Ok(transcript)
+    Ok(names)
+}
+
+/// Runs a script of a setup and at most one session: the transcript of its stepped run. Only want of memory refuses it.
+pub fn run(alloc: Global, script: &Script) -> Result<Transcript, AllocError>
+    requires { IsRunnable script.now }
+    ensures { IfOk result (IsRun script.now) }
+{
+    let mut engine = Engine::new(alloc);
+    let sections = run_sections(alloc, script, &mut engine)?;
+    let tables = table_names(alloc, &engine.catalog)?;
+    Ok(Transcript {
+        has_setup: script.has_setup,
+        sections,
+        tables,
+        log: engine.log,
+        peak: engine.peak,
+    })
 }

@@ -21,7 +21,7 @@ pub enum Status {
     WriteFault,
     /// Memory was wanted. Nothing was written.
     Memory,
-    /// The source was read to its end and is a script that is not run yet. Nothing was written.
+    /// The source was read to its end and is a script of two or more sessions, which is not run yet. Nothing was written.
     NotYet,
 }
 

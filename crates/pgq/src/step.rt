@@ -3,7 +3,6 @@ ghost use Rattle.pgq.specs.declared.step.NoText.TheVariants as no_text;
 ghost use Rattle.pgq.specs.Headline.{StepMeans, IsTextOf, IsNoText};
 
 use crate::bytes::{ReadError, read_all, write_all};
-use crate::cursor::Unread;
 use crate::run::run;
 use crate::status::Status;
 use pg_outside::{Sink, Source};
@@ -14,7 +13,8 @@ use std::alloc::{AllocError, Global};
 /// The most bytes that a script may have.
 const MOST_BYTES: usize = 16777216;
 
-/// Why no transcript was made: the bytes are no script, or one that is not run yet, or memory was wanted.
+/// Why no transcript was made: the bytes are no script, or one of two or more sessions, which is not run yet, or memory was
+/// wanted.
 #[derive(Clone, Copy, Debug, PartialEq, Eq)]
 pub enum NoText {
     Bad { line: u32, kind: ScriptKind },
@@ -31,6 +31,7 @@ impl From<AllocError> for NoText {
 }
 
 /// The text of the transcript of the script that these bytes are.
+#[tactic(auto, using(crate::specs::Runnable::is_runnable))]
 fn transcript_text(alloc: Global, bytes: &[u8]) -> Result<Text, NoText>
     ensures text { IfOk result (IsTextOf bytes.now) }
     ensures none { IfErr result (IsNoText bytes.now) }
@@ -40,11 +41,10 @@ fn transcript_text(alloc: Global, bytes: &[u8]) -> Result<Text, NoText>
         Err(ScriptFault::Bad { line, kind }) => return Err(NoText::Bad { line, kind }),
         Err(ScriptFault::Memory) => return Err(NoText::Memory),
     };
-    let transcript = match run(alloc, &script) {
-        Ok(transcript) => transcript,
-        Err(Unread::Form) => return Err(NoText::NotYet),
-        Err(Unread::Memory) => return Err(NoText::Memory),
-    };
+    if script.sections.len() > 2 {
+        return Err(NoText::NotYet);
+    }
+    let transcript = run(alloc, &script)?;
     let text = print(alloc, &transcript)?;
     Ok(text)
 }

@@ -176,18 +176,24 @@ fn statuses_of_runs(rt: HostRuntime) -> Result<(), Fail> {
     Ok(())
 }
 
-/// Blanks alone, one more than a script may have, a fault at a line, and words of no form.
+const NOTHING: &str = "@log 0
+@peak kept 1 pins 0
+@end
+";
+
+/// Blanks alone, one more than a script may have, and words of no form.
 #[test]
-fn statuses_without_a_run(rt: HostRuntime) -> Result<(), Fail> {
+fn statuses_of_blanks(rt: HostRuntime) -> Result<(), Fail> {
     let alloc = rt.alloc();
     let too_long = Status::BadScript {
         line: 0,
         kind: ScriptKind::TooLong,
     };
-    for (word, count, status, number) in [
-        ("step", 65_537, Status::NotYet, 6),
-        ("step", 16_777_217, too_long, 1),
-        ("stop", 9, Status::BadWords, 2),
+    for (word, count, status, number, held) in [
+        ("step", 0, Status::Done, 0, NOTHING),
+        ("step", 65_537, Status::Done, 0, NOTHING),
+        ("step", 16_777_217, too_long, 1, ""),
+        ("stop", 9, Status::BadWords, 2, ""),
     ] {
         let blanks = vec![in alloc; b' '; count]?;
         let mut from = source(alloc, blanks.as_slice(), 5000, &[])?;
@@ -195,18 +201,29 @@ fn statuses_without_a_run(rt: HostRuntime) -> Result<(), Fail> {
         let answer = top(alloc, &words(alloc, word)?, &mut from, &mut to);
         assert_eq!(rt; answer, status);
         assert_eq!(rt; answer.number(), number);
-        assert_eq!(rt; to.bytes(), b"".as_slice());
+        assert_eq!(rt; to.bytes(), held.as_bytes());
     }
-    let mut from = source(alloc, b"@session a\n\nAFTER a 1;", 3, &[])?;
-    let mut to = sink(alloc, 99, 99, &[])?;
+    Ok(())
+}
+
+/// A fault at a line, and two sessions.
+#[test]
+fn statuses_without_a_run(rt: HostRuntime) -> Result<(), Fail> {
+    let alloc = rt.alloc();
     let after = Status::BadScript {
         line: 3,
         kind: ScriptKind::AfterName,
     };
-    assert_eq!(rt;
-        top(alloc, &words(alloc, "step")?, &mut from, &mut to),
-        after
-    );
-    assert_eq!(rt; to.bytes(), b"".as_slice());
+    for (text, status, number) in [
+        ("@session a\n\nAFTER a 1;", after, 1),
+        ("@session a\n@session b\n", Status::NotYet, 6),
+    ] {
+        let mut from = source(alloc, text.as_bytes(), 3, &[])?;
+        let mut to = sink(alloc, 99, 99, &[])?;
+        let answer = top(alloc, &words(alloc, "step")?, &mut from, &mut to);
+        assert_eq!(rt; answer, status);
+        assert_eq!(rt; answer.number(), number);
+        assert_eq!(rt; to.bytes(), b"".as_slice());
+    }
     Ok(())
 }

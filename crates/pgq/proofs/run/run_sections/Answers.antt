@@ -1,21 +1,10 @@
-use Rattle.std.proofs.Common.{sym, subst, ◌∙◌}
-use Rattle.pgq.specs.Setup.{IsTranscriptOf}
-use Rattle.pgq.proofs.SetupLaws.{vertices_ascend}
+use Rattle.pgq.proofs.Running.{section_more, counted_more}
 use Rattle.pgq.proofs.run.run_sections.Goals as goal
 
-pub answer-requires-clause-ascends : goal.answer-requires-clause-ascends
-answer-requires-clause-ascends c = vertices_ascend c.args.text.now c.args.setup.now.items c.in_ok-done.done c.in_ok-done.ensures.run
-
-pub returns : goal.returns
-returns c = record {
-  done = c.in_ok-done.done;
-  item = c.in_ok-item.item.now;
-  outcome = c.in_ok-outcome.outcome;
-  run = c.in_ok-done.ensures.run;
-  whole = c.in_ok-done.ensures.whole;
-  few = c.in_ok-done.ensures.few;
-  one = sym c.len.ensures ∙ c.if-len-ne1.false;
-  item_at = c.in_ok-item.ensures.found;
-  answered = c.in_ok-outcome.ensures;
-  transcript = subst (λ n. IsTranscriptOf c.in_ok-done.done n c.in_ok-outcome.outcome c.in_ok-transcript.transcript) c.in_ok-name.ensures c.in_ok-transcript.ensures;
-}
+pub sections-preserved : goal.sections-preserved
+sections-preserved c = (
+  c.in-Ok.ensures.ready,
+  section_more c.args.script.now c.args.engine.now c.sections.engine c.run_section.new.engine c.sections.outs c.push.new.self c.in-Ok.out c.as_slice-section-items.result.now c.section-item.result c.sections.i
+      c.sections.invariant.1 c.sections.invariant.2 c.as_slice-section-items.ensures c.sections-test.true c.section-item.is c.in-Ok.ensures.run c.in-Ok-push.ensures.ok,
+  counted_more c.sections.outs c.push.new.self c.sections.i c.in-Ok.out c.sections.invariant.2 c.in-Ok-push.ensures.ok,
+)

@@ -1,0 +1,16 @@
+use Rattle.std.proofs.Common.{subst}
+use Rattle.pg_write.specs.PlainInsert.{rows_of}
+use Rattle.pgq.specs.Insertions.{HasNoRows}
+use Rattle.pgq.specs.InsertedRows.{rows_are_of}
+use Rattle.pgq.proofs.Inserting.{ended_ok, refused_ok}
+use Rattle.pgq.proofs.insertion.insert_into.Goals as goal
+
+pub commit-requires-clause-rows : goal.commit-requires-clause-rows
+commit-requires-clause-rows c = rows_are_of c.args.table c.in-Ok.ensures.written.shape (rows_of c.in-Ok.ensures.written.shape c.args.insert.now) c.in-Ok.writes.list c.in-Ok.ensures.written.written.written
+
+pub returns-in-Ok-clause-answers : goal.returns-in-Ok-clause-answers
+returns-in-Ok-clause-answers c = ended_ok c.args.engine.now c.args.insert.now c.args.table c.requires.plain c.requires.ready c.requires.right c.requires.table c.args.section c.in-Ok.writes.list c.commit.new.engine c.commit.result c.in-Ok.ensures.written c.commit.ensures.ended
+
+pub returns-in-Err-Row-clause-answers : goal.returns-in-Err-Row-clause-answers
+returns-in-Err-Row-clause-answers c = refused_ok c.args.engine.now c.args.insert.now c.args.table c.requires.plain c.requires.ready c.requires.right c.requires.table c.args.section c.in-Err-Row.row c.in-Err-Row.fault c.row_refusal.result
+    (subst (HasNoRows c.args.engine.now c.args.insert.now c.args.table) c.in-Err-Row.field-0-is c.in-Err-Row.ensures.fault) c.row_refusal.ensures

@@ -1,0 +1,14 @@
+use Rattle.std.proofs.Common.{◌≡◌, drop}
+use Rattle.pg_keyed.specs.Keyed.{Ascends, Each}
+use Rattle.pg_value.specs.Order.{key_cmp}
+use Rattle.pg_value.specs.TablesLaws.{key_of, key_named, put_in}
+use Rattle.pgq.specs.Commits.{HasRow}
+use Rattle.pgq.proofs.rows.put_rows.Given as goal
+
+abbrev pub invariant-loop-write : goal.invariant-loop-write
+invariant-loop-write l = record {
+  ascends : Ascends key_of key_cmp l.rows;
+  later : Ascends key_named key_cmp (drop l.write-index l.writes);
+  present : Each HasRow (drop l.write-index l.writes);
+  whole : put_in l.rows (drop l.write-index l.writes) ≡ put_in l.fn.rows l.writes;
+}

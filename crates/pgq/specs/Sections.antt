@@ -1,0 +1,77 @@
+-- A section's items answered one after another, and the run of a script of a setup and at most one session.
+use Rattle.std.specs.Prelude.{ℕ, ◌≡◌, ◌+◌, ◌==◌, ◌≤◌, ◌<◌, ◌^◌, cond, List, [], ◌∷◌, map, length, replicate, get_or, slice_set}
+use Rattle.std.specs.declared.option.Option.TheVariants.{None}
+use Rattle.pg_ast.specs.CatalogEntries.{Defined}
+use Rattle.pg_keyed.specs.Keyed.{Each}
+use Rattle.pg_script.specs.declared.script.Item.{Item}
+use Rattle.pg_script.specs.declared.script.Item.TheVariants.{Sql}
+use Rattle.pg_script.specs.declared.script.Section.{Section}
+use Rattle.pg_script.specs.declared.script.Script.{Script}
+use Rattle.pg_script.specs.declared.outcome.Outcome.{Outcome}
+use Rattle.pg_script.specs.declared.transcript.Transcript.{Transcript}
+use Rattle.pg_ast.specs.CatalogLookUps.{nothing}
+use Rattle.pg_script.specs.Legal.{items_of, Legal}
+use Rattle.pgq.specs.declared.engine.Engine.{Engine}
+use Rattle.pgq.specs.Stepped.{World, Run, no_run, Turns, section_outs, Stepped}
+use Rattle.pg_read.specs.Parsed.{IsPartAt}
+use Rattle.pgq.specs.Language.{language}
+use Rattle.pgq.specs.Engine.{most_writes, core_of}
+
+abbrev pub world : ℕ → List ℕ → List Run → Engine → World Defined
+world sections counts runs e = record { core = core_of sections counts e; catalog = e.catalog; runs = runs }
+
+-- how many items each session has finished, when section n has finished k more; the setup's are not counted
+abbrev pub counts_then : ℕ → ℕ → List ℕ → List ℕ
+counts_then n k counts = cond (n == 0) counts (slice_set counts n (get_or counts n 0 + k))
+
+-- the runs, when section n has answered so
+abbrev pub runs_then : ℕ → List Outcome → List Run → List Run
+runs_then n outs runs = slice_set runs n (record { outs = outs; open_ = None })
+
+-- Items of section n, from its first on, have answered so: in every script that begins the section with them, by as many turns of a stepped
+-- run from any world in which the section has answered nothing.
+abbrev pub HasAnswered : List ℕ → ℕ → List Item → Engine → List Outcome → Engine → Type 0
+HasAnswered text n items e outs e' =
+    (script : Script) (sections : ℕ) (counts : List ℕ) (runs : List Run) → items_of script n ≡ items → n < length runs → n ≤ sections → length counts ≡ sections + 1 → get_or runs n no_run ≡ no_run
+    → Turns (language text) most_writes script (world sections counts runs e) (replicate (length outs) n) (world sections (counts_then n (length outs) counts) (runs_then n outs runs) e')
+
+-- a section's items have all been answered
+pub record IsWhole (script : Script) (n : ℕ) (e : Engine) (outs : List Outcome) (e' : Engine) : Type 0 where
+  pub answered : HasAnswered script.text n (items_of script n) e outs e'
+  pub all : length outs ≡ length (items_of script n)
+
+-- what a section has answered, with no transaction open
+abbrev pub closed : List Outcome → Run
+closed outs = record { outs = outs; open_ = None }
+
+-- the transcript of a script whose sections have answered so
+abbrev pub transcript : Script → List (List Outcome) → Engine → Transcript
+transcript script answers e = record {
+  has_setup = script.has_setup;
+  sections = section_outs script.sections (map closed answers);
+  tables = map (λ t. t.0) e.catalog.0;
+  log = e.log;
+  peak = e.peak;
+}
+
+-- the sections from number n on answered whole, one after another
+abbrev pub HaveAnswered : Script → ℕ → Engine → List (List Outcome) → Engine → Type 0
+HaveAnswered script n e [] e' = e' ≡ e
+HaveAnswered script n e (outs ∷ more) e' = (m : Engine) × IsWhole script n e outs m × HaveAnswered script (n + 1) m more e'
+
+-- the item is a statement that stands in the text
+abbrev pub IsStatementIn : List ℕ → Item → Type 0
+IsStatementIn text item = (from to : ℕ) × (item ≡ Sql from to) × IsPartAt text from to
+
+-- a script of the setup and at most one session, whose items are statements, and whose order names that session alone
+pub record IsRunnable (script : Script) : Type 0 where
+  pub short : length script.text < 2 ^ 32
+  pub some : 0 < length script.sections
+  pub few : length script.sections ≤ 2
+  pub statements : Each (λ (s : Section). Each (IsStatementIn script.text) s.items) script.sections
+  pub order : Each (λ n. (0 < n) × (n < length script.sections)) script.order
+
+-- the run of a script, which is a stepped run and legal
+pub record IsRun (script : Script) (t : Transcript) : Type 0 where
+  pub stepped : Stepped (language script.text) nothing most_writes script t
+  pub legal : Legal (language script.text) nothing most_writes script t
