@@ -3,7 +3,7 @@ use Rattle.std.proofs.Common.{ℕ, zero, suc, ◌≡◌, ◌+◌, ◌≤◌, Boo
 use Rattle.std.specs.Prelude.{not, ◌==◌, is_none, is_some, slice_get}
 use Rattle.std.specs.declared.option.Option.{Option}
 use Rattle.std.specs.declared.option.Option.TheVariants.{Some, None}
-use Rattle.std.specs.Option.{option_map, option_and_then, unwrap_or}
+use Rattle.std.specs.Option.{option_map, option_and_then}
 use Rattle.std.specs.List.{flat_map, list_all, range_with_len}
 use Rattle.std.proofs.lemmas.Bool.{and_parts}
 use Rattle.std.proofs.lemmas.List.{append-nil, length-map}
@@ -28,7 +28,7 @@ use Rattle.pg_ast.specs.EntryShapes as entry
 use Rattle.pg_ast.specs.EntryShapes.{table_shapes, table_shape}
 use Rattle.pg_ast.specs.FaultPlaces.{place_if, first_fault, fault_at, least}
 use Rattle.pg_ast.specs.TableJudgement.{repeats}
-use Rattle.pg_ast.specs.GraphEntries.{kind_at, kind_in, number_of}
+use Rattle.pg_ast.specs.GraphEntries.{kind_at, kind_in}
 use Rattle.pg_ast.specs.GraphJudgement.{missing, no_such}
 use Rattle.pg_ast.specs.Typing.{kind_of, may_be, types_at, wide_at}
 use Rattle.pg_ast.specs.InsertJudgement as judged
@@ -198,9 +198,6 @@ columns_same tables name k found =
     ap columns_in (slice_get-map (λ (t : List ℕ × TableEntry). table_shape t.1) tables k)
     ∙ shape_columns (slice_get tables k)
     ∙ sym (ap (λ o. shapes_of (entries_in (option_and_then (slice_get tables) o))) found)
-
-pub number_is : (tables : Tables) (name : List ℕ) (k : ℕ) → table_in tables name ≡ Some k → table_number k ≡ number_of tables name
-number_is tables name k found = sym (ap (λ o. table_number (unwrap_or o 0)) found)
 
 -- ---- a fault of the tuples is one that is found
 

@@ -1,3 +1,5 @@
 pub mod PlainInsert
 pub mod ValuePasses
 pub mod RowPasses
+pub mod WritesFit
+pub mod FitLaws

@@ -1,4 +1,4 @@
--- What an INSERT of literals does, as one walk over its tuples finds it: over what the table holds and the writes so far.
+-- The rows of an INSERT of literals, one after another: the first that is faulty, over what the table holds and the writes of the rows before it.
 use Rattle.std.specs.Prelude.{ℕ, ◌+◌, ◌≡◌, ◌||◌, cond, nat_lt, is_some, List, [], ◌∷◌, map, length, slice_get}
 use Rattle.std.specs.declared.option.Option.{Option}
 use Rattle.std.specs.declared.option.Option.TheVariants.{Some, None}

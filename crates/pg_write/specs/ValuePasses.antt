@@ -1,4 +1,4 @@
--- What is wrong with the tuples of an INSERT of literals, as one walk over them finds it.
+-- What is wrong with the tuples of an INSERT of literals: the number of their values, the kinds of these, and the widths of numbers.
 use Rattle.std.specs.Prelude.{ℕ, ◌+◌, ◌==◌, not, List, [], ◌∷◌, ◌++◌, map, length, slice_get}
 use Rattle.std.specs.declared.option.Option.{Option}
 use Rattle.std.specs.declared.option.Option.TheVariants.{Some, None}

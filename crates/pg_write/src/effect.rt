@@ -1,3 +1,4 @@
+//! The writes of an INSERT of literals over the rows of its table, or its first faulty row.
 ghost use Rattle.std.specs.Prelude.{◌≡◌, ◌<◌, ◌^◌, ◌∷◌, [], true, None, length, map, IsTrue, IfOk, IfErr, OnOk};
 ghost use Rattle.pg_keyed.specs.Keyed.{Ascends};
 ghost use Rattle.pg_value.specs.Order.{key_cmp};
@@ -57,6 +58,7 @@ fn insert_tuples(
     ensures right { IfOk result (λ _. passes.first_faulty writes.old.limit table shape.now held.now writes.old.list 0 (map (passes.literal_row shape.now) tuples.now) ≡ None) }
     ensures written { OnOk result (writes.new.list ≡ with_rows table shape.now writes.old.list (map (passes.literal_row shape.now) tuples.now)) }
     ensures fault { IfErr result (passes.IsFirst (passes.first_faulty writes.old.limit table shape.now held.now writes.old.list 0 (map (passes.literal_row shape.now) tuples.now))) }
+    ensures limit { writes.new.limit ≡ writes.old.limit }
 {
     for (i, tuple) in tuples.iter().enumerate() {
         match insert_tuple(alloc, table, shape, held, tuple, writes) {
@@ -84,7 +86,8 @@ fn is_narrow(shape: &TableShape) -> bool
 /// faulty row. In a row the columns are tested first, in their order: NullKey comes exactly where a key column's value is
 /// NULL, NullNotAllowed where that of another NOT NULL column is, Range where a number is no INTEGER, and TooLong where a
 /// text has more bytes than its column may hold. Then Duplicate comes exactly where the key is held or stands in an earlier
-/// row of the statement, and then TooManyWrites where there would be more writes than `limit`. Memory may come at any point.
+/// row of the statement, and then TooManyWrites where there would be more writes than `limit`. The writes have that limit.
+/// Memory may come at any point.
 pub fn insert_rows(
     alloc: Global,
     limit: u64,
@@ -97,6 +100,7 @@ pub fn insert_rows(
     requires ascends { Ascends key_of key_cmp held.now }
     ensures written { IfOk result (λ w. spec.Writes limit table shape.now held.now (spec.rows_of shape.now insert.now) w.list) }
     ensures fault { IfErr result (spec.Refuses limit table shape.now held.now (spec.rows_of shape.now insert.now)) }
+    ensures limit { IfOk result (λ w. w.limit ≡ limit) }
 {
     if !is_narrow(shape) {
         return Err(EffectFault::Memory);

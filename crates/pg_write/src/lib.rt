@@ -5,6 +5,7 @@
 mod column;
 mod effect;
 mod fault;
+mod laws;
 mod least;
 mod plain;
 mod put;
@@ -15,5 +16,6 @@ mod tests;
 
 pub use effect::insert_rows;
 pub use fault::EffectFault;
+pub use laws::writes_fit;
 pub use plain::is_plain;
 pub use resolve::resolve_insert;

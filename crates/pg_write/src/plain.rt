@@ -1,3 +1,4 @@
+//! Which INSERT has no list of columns, and literals alone.
 ghost use Rattle.std.specs.Prelude.{◌≡◌};
 ghost use Rattle.std.specs.List.{list_all};
 ghost use Rattle.pg_ast.specs.Exprs.{tree_of};

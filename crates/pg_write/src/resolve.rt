@@ -1,3 +1,4 @@
+//! Where an INSERT of literals is refused before it reads the tables.
 ghost use Rattle.std.specs.Prelude.{◌≡◌, true, None, IfOk, IfErr, slice_get};
 ghost use Rattle.std.specs.List.{flat_map};
 ghost use Rattle.pg_ast.specs.EntryShapes as entry;

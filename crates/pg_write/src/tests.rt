@@ -315,6 +315,7 @@ const WRITTEN: &[Written] = &[
 
 #[test]
 fn rows_are_written(rt: HostRuntime) -> Result<(), Fail> {
+    writes_fit();
     let alloc = rt.alloc();
     let shape = shape(alloc)?;
     let held = held(alloc)?;

@@ -1,0 +1,36 @@
+-- What an INSERT of literals writes fits the tables that are defined.
+use Rattle.std.specs.Prelude.{ℕ, ◌≡◌, true, List, slice_get}
+use Rattle.std.specs.declared.option.Option.TheVariants.{Some, None}
+use Rattle.pg_value.specs.declared.shape.TableNo.{TableNo}
+use Rattle.pg_value.specs.declared.shape.TableShape.{TableShape}
+use Rattle.pg_value.specs.declared.write.Write.{Write}
+use Rattle.pg_value.specs.Tables.{Stored, Tables, FitWrites}
+use Rattle.pg_ast.specs.declared.statement.Insert.{Insert}
+use Rattle.pg_ast.specs.CatalogEntries.{Defined}
+use Rattle.pg_ast.specs.EntryShapes.{shapes}
+use Rattle.pg_ast.specs.GraphEntries.{number_of}
+use Rattle.pg_ast.specs.InsertJudgement.{insert_fault}
+use Rattle.pg_write.specs.PlainInsert.{is_plain, rows_of, Holds, Writes}
+
+-- literals alone, without a list of columns, and no fault that is found before the tables are read
+pub record IsResolved (d : Defined) (i : Insert) : Type 0 where
+  pub plain : is_plain i ≡ true
+  pub right : insert_fault d.0 i ≡ None
+
+-- the number of the table of an INSERT
+abbrev pub table_of : Defined → Insert → TableNo
+table_of d i = number_of d.0 i.table.text
+
+-- the writes of an INSERT, none of whose rows has a fault, over some tables and with some limit
+pub record AreWritten (d : Defined) (i : Insert) (writes : List Write) : Type 0 where
+  pub limit : ℕ
+  pub shape : TableShape
+  pub held : List Stored
+  pub tables : Tables
+  pub shape_at : slice_get (shapes d).tables (table_of d i).0 ≡ Some shape
+  pub holds : Holds (table_of d i) held tables
+  pub written : Writes limit (table_of d i) shape held (rows_of shape i) writes
+
+-- they fit the tables that are defined
+abbrev pub WritesFit : Type 0
+WritesFit = (d : Defined) (i : Insert) (writes : List Write) → IsResolved d i → AreWritten d i writes → FitWrites (shapes d) writes
