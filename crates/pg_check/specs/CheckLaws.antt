@@ -1,4 +1,4 @@
--- What the code's query of one edge is to the checked query, and that its sets of tables have the tables of the graph.
+-- What is asked of the tables is a checked query of the query, and its sets of tables have the tables of the graph.
 use Rattle.std.proofs.Common.{◌≡◌, ◌+◌, ℕ, zero, suc, refl, ap, sym, ◌∙◌, arith, Bool, true, false, ◌||◌, ◌==◌, List, [], ◌∷◌, ◌++◌, map, length, length-append, append_assoc, Contains, Option, Some, take, subst, inl, inr, zero-add, eq-eqb}
 use Rattle.std.proofs.lemmas.List.{length-map}
 use Rattle.std.specs.Prelude.{filter_map, option_map, slice_get}
@@ -33,7 +33,7 @@ use Rattle.pg_check.specs.OneHopCheck.{IsHopOf, IsCheckedOf, checked_item, graph
 abbrev pub checked_columns : Defined → Query → List CheckedColumn
 checked_columns d q = map (checked_item d (graph_of d q) (variables q)) q.columns
 
--- the code's query is a checked query of it
+-- what is asked of the tables is a checked query
 pub checked_of : (d : Defined) (q : Query) (h : HopQuery) → IsHopOf d q h → IsCheckedOf d q (one_hop_query h.graph h.vertices h.edges (checked_columns d q))
 checked_of d q h i = record {
   vertices = h.vertices;
@@ -43,7 +43,7 @@ checked_of d q h i = record {
   is = ap (λ g. one_hop_query g h.vertices h.edges (checked_columns d q)) i.graph;
 }
 
--- the checked column is the property that the code's column shows
+-- the checked column is the property that is asked for
 abbrev pub Shows : HopColumn → CheckedColumn → Type 0
 Shows h c = c.expr ≡ Property h.var h.columns
 
@@ -51,7 +51,7 @@ all_show : (d : Defined) (g : GraphNo) (vars : List Name) (cs : List ColumnItem)
 all_show d g vars [] = tt
 all_show d g vars (c ∷ cs) = (refl, all_show d g vars cs)
 
--- the checked columns show the code's columns, each its own
+-- the checked columns are those that are asked for, each its own
 pub columns_show : (d : Defined) (q : Query) (h : HopQuery) → IsHopOf d q h → AllZip Shows h.columns (checked_columns d q)
 columns_show d q h i = subst (λ hs. AllZip Shows hs (checked_columns d q)) (sym i.columns) (all_show d (graph_of d q) (variables q) q.columns)
 

@@ -1,4 +1,4 @@
--- The parts of a query as the code holds them.
+-- The parts of a query of one edge: its three variables, its properties, and where they are at fault.
 use Rattle.std.specs.Prelude.{ℕ, not, List, [], ◌∷◌}
 use Rattle.std.specs.List.{flat_map}
 use Rattle.std.specs.declared.option.Option.{Option}

@@ -194,7 +194,7 @@ column_from d g vars name (Some r) = record { var = number_of vars r.0.text; col
 abbrev pub hop_column : Defined → GraphNo → List Name → ColumnItem → HopColumn
 hop_column d g vars c = column_from d g vars c.name.text (reference c)
 
--- what the code answers
+-- what a query asks of the tables: its graph, the sets of the graph's vertex and edge tables, and its columns
 pub record IsHopOf (d : Defined) (q : Query) (h : HopQuery) : Type 0 where
   pub graph : h.graph ≡ graph_shape d (graph_of d q)
   pub vertices : IsSetOf h.vertices.0 (tables_of d (graph_of d q) false Every)
@@ -222,7 +222,7 @@ abbrev pub kind_from : GraphEntry → Option (Name × Name) → Option Kind
 kind_from g None = None
 kind_from g (Some r) = property_kind g r.1.text
 
--- a column of the code's query as a checked column
+-- a column that is asked for, as a checked column
 abbrev pub checked_column : HopColumn → Option Kind → CheckedColumn
 checked_column h kind = record { expr = Property h.var h.columns; name = h.name; kind = kind; width = kind_width kind }
 

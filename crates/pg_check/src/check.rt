@@ -1,3 +1,4 @@
+//! The check of a query of one edge: where it is refused, and what it asks of the tables.
 ghost use Rattle.std.specs.Prelude.{◌≡◌, true, false, None, IfOk, IfErr, map};
 ghost use Rattle.pg_ast.specs.GraphLookUps.{IsSetOf, graph_shape, tables_of};
 ghost use Rattle.pg_ast.specs.Labels.{Every};

@@ -1,3 +1,4 @@
+//! The rows of a query of one edge, over the rows of the graph's edge tables.
 ghost use Rattle.std.specs.Prelude.{◌≡◌, [], ◌++◌, IfOk, OnOk};
 ghost use Rattle.std.specs.List.{cons_option, filter_map};
 ghost use Rattle.std.specs.List.Sorted.{IsSorted};
@@ -128,7 +129,8 @@ fn edge_rows(
 
 /// The answer of a query of one edge in value order: one row for each row of the graph's edge tables whose source columns
 /// and destination columns hold no NULL and name rows of the vertex tables that they reference. `tables` has the rows of
-/// each table, by its number, in order of their keys. Only want of memory refuses it.
+/// each table, by its number, in order of their keys, and `query` asks over a graph whose edge tables differ, with the sets
+/// of its vertex and edge tables (`HopAnswer.Suits`), as the check gives it. Only want of memory refuses it.
 pub fn hop_rows(
     alloc: Global,
     shapes: &Shapes,

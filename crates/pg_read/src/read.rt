@@ -1,3 +1,4 @@
+//! Reads one statement of a script: its part of the text, the tokens of that, and what these are.
 ghost use Rattle.std.specs.Prelude.{◌≡◌, ◌<◌, ◌^◌, length, IfOk};
 ghost use Rattle.pg_ast.specs.Terminals.{IsEnded};
 ghost use Rattle.pg_read.specs.Items.{ScriptsAreWhole};
@@ -10,7 +11,7 @@ use pg_sql::parse_statement;
 use pg_value::{List, Text};
 use std::alloc::{AllocError, Global};
 
-// The part of a text from one place up to another, without copying.
+/// The part of a text from one place up to another, without copying.
 fn part(text: &Text, from: u32, to: u32) -> &str
     requires { IsPartAt text.now from to }
     ensures { result.now ≡ part_of text.now from to }
@@ -21,7 +22,7 @@ fn part(text: &Text, from: u32, to: u32) -> &str
     }
 }
 
-// The place of the first token.
+/// The place of the first token.
 fn first_place(tokens: &List<Token>) -> u32
     ensures { result ≡ first_place tokens.now }
 {
@@ -31,7 +32,7 @@ fn first_place(tokens: &List<Token>) -> u32
     }
 }
 
-// What the tokens of a statement are.
+/// What the tokens of a statement are.
 fn parsed(alloc: Global, tokens: &List<Token>) -> Result<Parsed, AllocError>
     requires { IsEnded tokens.now }
     ensures { IfOk result (IsParsed tokens.now) }
