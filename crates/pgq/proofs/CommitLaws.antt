@@ -18,8 +18,8 @@ use Rattle.pg_value.specs.TablesLaws.{key_of, key_named, put_in, writes_to, held
 use Rattle.pg_ast.specs.EntryShapes.{shapes}
 use Rattle.pgq.specs.declared.engine.Engine.{Engine}
 use Rattle.pgq.specs.Core.{base_after}
-use Rattle.pgq.specs.Engine.{IsReady, AreSound, most_writes}
-use Rattle.pgq.specs.Commits.{HasRow, IsRowOf, IsAppended, peak_after}
+use Rattle.pgq.specs.Engine.{IsReady, AreSound, most_log_writes, peak_after}
+use Rattle.pgq.specs.Commits.{HasRow, IsRowOf, IsAppended}
 use Rattle.pgq.proofs.LogOfOnes.{after_more, held_more}
 
 -- THE BASE AND THE PEAK
@@ -86,7 +86,7 @@ module _ (table : TableNo) (c : Commit) (e e' : Engine) (r : IsReady e) (a : IsA
   longer : length e'.log ≡ length e.log + 1
   longer = ap length a.log ∙ length-append e.log (c ∷ [])
 
-  pub still_ready : table.0 < length e.tables.items → Each (IsRowOf table) ws → IsInOrder ws → held e.log + length ws ≤ most_writes
+  pub still_ready : table.0 < length e.tables.items → Each (IsRowOf table) ws → IsInOrder ws → held e.log + length ws ≤ most_log_writes
       → e'.tables.items ≡ slice_set e.tables.items table.0 (put_in (get_or e.tables.items table.0 []) ws) → IsReady e'
   still_ready within rows in_order room lists = record {
     each = λ t.

@@ -22,7 +22,7 @@ use Rattle.pgq.specs.declared.engine.Engine.{Engine}
 use Rattle.pgq.specs.Language.{name_of, defines}
 use Rattle.pgq.specs.Refusals.{IsDefineRefusal}
 use Rattle.pgq.specs.Definitions.{tables_then, IsDefinedBy}
-use Rattle.pgq.specs.Engine.{most_writes, AreSound, IsReady, Answers, AnswersTo}
+use Rattle.pgq.specs.Engine.{most_log_writes, AreSound, IsReady, Answers, AnswersTo}
 use Rattle.pgq.proofs.Outcomes.{defined_is, define_fault_is}
 
 beyond_is : (tables : List (List Stored)) (t : ℕ) → get_or (tables ++ [] ∷ []) t [] ≡ get_or tables t []
@@ -62,7 +62,7 @@ module _ (d : Define) (e m e' : Engine) (taken : IsTaken d e m) (by : IsDefinedB
     shapes_are = by.shapes_are ∙ sym (ap shapes by.catalog);
     sound = subst AreSound (sym catalog_is) sound;
     held_all = by.held_all ∙ taken.held_all ∙ ready.held_all ∙ sym (ap held log_is);
-    room = subst (λ l. held l ≤ most_writes) (sym log_is) ready.room;
+    room = subst (λ l. held l ≤ most_log_writes) (sym log_is) ready.room;
     low = omega (arith, by.base, ap length by.log);
     high = omega (arith, by.base, ap length by.log);
     peak = subst (λ (p : ℕ × ℕ). 1 ≤ p.0) (sym (by.peak ∙ taken.peak)) ready.peak;

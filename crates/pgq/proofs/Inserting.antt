@@ -29,7 +29,7 @@ use Rattle.pg_write.specs.declared.fault.EffectFault.{EffectFault}
 use Rattle.pg_write.specs.declared.fault.EffectFault.TheVariants.{Row}
 use Rattle.pg_write.specs.PlainInsert.{is_plain, rows_of, IsFound, Holds, Writes, Refuses}
 use Rattle.pgq.specs.declared.engine.Engine.{Engine}
-use Rattle.pgq.specs.Language.{most_of_one, resolves, IsInserted, affects, refusal_of}
+use Rattle.pgq.specs.Language.{most_transaction_writes, resolves, IsInserted, affects, refusal_of}
 use Rattle.pgq.specs.Refusals.{IsResolveRefusal}
 use Rattle.pgq.specs.Insertions.{IsTableOf, HasRows, HasNoRows}
 use Rattle.pgq.specs.Commits.{HasEnded, nothing, full, committed}
@@ -126,19 +126,19 @@ held_is e i table held d is h = h ∙ same_within e.tables.items table.0 d [] is
 
 -- what the judgement of the rows gives
 pub rows_ok : (e : Engine) (i : Insert) (table : TableNo) (shape : TableShape) (held : List Stored) (r : Result Limited EffectFault) → IsTableOf e i table
-    → shape ≡ get_or e.shapes.tables table.0 shape → held ≡ get_or e.tables.items table.0 [] → IfOk r (λ w. Writes most_of_one table shape held (rows_of shape i) w.list) → IfOk r (λ w. HasRows e i table w.list)
+    → shape ≡ get_or e.shapes.tables table.0 shape → held ≡ get_or e.tables.items table.0 [] → IfOk r (λ w. Writes most_transaction_writes table shape held (rows_of shape i) w.list) → IfOk r (λ w. HasRows e i table w.list)
 rows_ok e i table shape held (Ok w) is at lists h = record {
   shape = shape;
   shape_at = slice_get-get_or e.shapes.tables table.0 shape is.shaped ∙ ap Some (sym at);
-  written = subst (λ l. Writes most_of_one table shape l (rows_of shape i) w.list) lists h;
+  written = subst (λ l. Writes most_transaction_writes table shape l (rows_of shape i) w.list) lists h;
 }
 rows_ok e i table shape held (Err f) is at lists h = tt
 
 pub no_rows_ok : (e : Engine) (i : Insert) (table : TableNo) (shape : TableShape) (held : List Stored) (r : Result Limited EffectFault) → IsTableOf e i table
-    → shape ≡ get_or e.shapes.tables table.0 shape → held ≡ get_or e.tables.items table.0 [] → IfErr r (Refuses most_of_one table shape held (rows_of shape i)) → IfErr r (HasNoRows e i table)
+    → shape ≡ get_or e.shapes.tables table.0 shape → held ≡ get_or e.tables.items table.0 [] → IfErr r (Refuses most_transaction_writes table shape held (rows_of shape i)) → IfErr r (HasNoRows e i table)
 no_rows_ok e i table shape held (Ok w) is at lists h = tt
 no_rows_ok e i table shape held (Err f) is at lists h = record {
   shape = shape;
   shape_at = slice_get-get_or e.shapes.tables table.0 shape is.shaped ∙ ap Some (sym at);
-  refuses = subst (λ l. Refuses most_of_one table shape l (rows_of shape i) f) lists h;
+  refuses = subst (λ l. Refuses most_transaction_writes table shape l (rows_of shape i) f) lists h;
 }

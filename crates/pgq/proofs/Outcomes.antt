@@ -33,7 +33,7 @@ use Rattle.pgq.specs.declared.engine.Engine.{Engine}
 use Rattle.pgq.specs.Core.{base_after}
 use Rattle.pgq.specs.Stepped.{base_of, now, is_definition}
 use Rattle.pgq.specs.Language.{language, reads, defines, resolves, checks, affects, name_of}
-use Rattle.pgq.specs.Engine.{most_writes, core_of, resting, peak_then, Answers, AnswersTo}
+use Rattle.pgq.specs.Engine.{most_log_writes, core_of, resting, peak_after, Answers, AnswersTo}
 use Rattle.pgq.proofs.LogOfOnes.{no_conflict}
 
 all_none : (k n : ℕ) → get_or {A = Option ℕ} (replicate k None) n None ≡ None
@@ -51,7 +51,7 @@ unwritten tables = put_nothing place_of named row_given place_cmp places tables
 module _ (text : List ℕ) (n : ℕ) (e : Engine) (item : Item) where
   abbrev Says : Outcome → List Commit → Entries → Type 0
   Says o added d = (sections : ℕ) (counts : List ℕ) (outs : ℕ → List Outcome) (seen : ℕ)
-      → Judged (language text) (now most_writes (core_of sections counts e) outs added n) n seen (resting e.catalog) item o (resting d)
+      → Judged (language text) (now most_log_writes (core_of sections counts e) outs added n) n seen (resting e.catalog) item o (resting d)
 
   -- an answer that adds nothing
   stays : (o : Outcome) → Says o [] e.catalog → printed o ≡ [] → is_definition o ≡ false → Answers text n e item o e
@@ -117,14 +117,14 @@ module _ (text : List ℕ) (n : ℕ) (e : Engine) (item : Item) where
       (λ sections counts outs seen. changed_none i x (length e.log) ws (after e.log (length e.log)) r fine refl refl refl (under_none x (Done ws 0) a) refl refl) refl refl
 
   pub full_is : (i : Insert) (x : CheckedChange) (ws : List Write) (rows : ℕ) → reads text item (Changes i) → resolves e.catalog i (Fine x) → Effects x (Done ws rows) → 0 < rows
-      → most_writes < held e.log + length ws → Answers text n e item (LogFull (length e.log) (held e.log)) e
+      → most_log_writes < held e.log + length ws → Answers text n e item (LogFull (length e.log) (held e.log)) e
   full_is i x ws rows r fine a some full = stays (LogFull (length e.log) (held e.log))
       (λ sections counts outs seen. changed_alone i x (length e.log) rows ws (after e.log (length e.log)) r fine refl refl refl (under_none x (Done ws rows) a) some
       (filled (held e.log) (no_conflict e.log ws, refl, full) refl) refl) refl refl
 
   pub changed_is : (i : Insert) (x : CheckedChange) (ws : List Write) (rows : ℕ) (commit : Commit) (e' : Engine) → reads text item (Changes i) → resolves e.catalog i (Fine x) → Effects x (Done ws rows)
-      → 0 < rows → (ws ≡ [] → ⊥) → held e.log + length ws ≤ most_writes → IsCommit commit n (length e.log) ws
-      → e'.catalog ≡ e.catalog → e'.log ≡ e.log ++ commit ∷ [] → e'.base ≡ base_after e.base (length e.log) → e'.peak ≡ peak_then e.base (length e.log) (commit ∷ []) e.peak
+      → 0 < rows → (ws ≡ [] → ⊥) → held e.log + length ws ≤ most_log_writes → IsCommit commit n (length e.log) ws
+      → e'.catalog ≡ e.catalog → e'.log ≡ e.log ++ commit ∷ [] → e'.base ≡ base_after e.base (length e.log) → e'.peak ≡ peak_after e.base (length e.log) e.peak
       → Answers text n e item (ChangedAlone rows (length e.log) (length e.log + 1)) e'
   changed_is i x ws rows commit e' r fine a some written room is catalog log base peak = record {
     added = commit ∷ [];

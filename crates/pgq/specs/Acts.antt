@@ -6,12 +6,12 @@ use Rattle.std.specs.Prelude.{nat_lt, slice_set, is_some}
 use Rattle.std.specs.declared.option.Option.{Option}
 use Rattle.std.specs.declared.option.Option.TheVariants.{Some, None}
 use Rattle.pg_value.specs.declared.write.Commit.{Commit}
-use Rattle.pgq.specs.Core.{Core, pin_count, is_pinned, others, kept, seen_peak, pin_of, base_after, after_pin, after_commit, after_mark}
+use Rattle.pgq.specs.Core.{Core, pin_count, is_pinned, others, kept, seen_peak, pin_of, most_over_base, base_after, after_pin, after_commit, after_mark}
 use Rattle.pgq.specs.Stepped.{after_commits, went, defined, ended, marked, acts}
 
 pub record IsNear (c : Core) : Type 0 where
   pub low : c.base ≤ length c.log
-  pub high : length c.log ≤ c.base + 256
+  pub high : length c.log ≤ c.base + most_over_base
 
 abbrev pub IsPeakFit : Core → Type 0
 IsPeakFit c = c.peak.0 ≤ c.peak.1 + 2

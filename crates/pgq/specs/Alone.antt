@@ -118,7 +118,7 @@ committed c n log true r lt d =
     let q : pin_count p.pins ≡ 1 = one_pinned c.base n c.pins r.no_pin lt in
     λ i. record p { peak = cond (nat_lt c.peak.0 (k i)) (k i, q i) c.peak }
 
--- the peak never falls
+-- the peak has counted the base after any statement, where it had before
 pub peak_then_some : (base found : ℕ) (added : List Commit) (peak : ℕ × ℕ) → 1 ≤ peak.0 → 1 ≤ (peak_then base found added peak).0
 peak_then_some base found [] peak h = h
 peak_then_some base found (w ∷ ws) peak h = raised (found - base == 256) (nat_lt peak.0 2) where

@@ -64,9 +64,13 @@ after_pin c seat = seen_peak (record c { pins = slice_set c.pins seat (Some c.ba
 abbrev pub after_release : Core → ℕ → Core
 after_release c seat = seen_peak (record c { pins = slice_set c.pins seat None })
 
--- the current base after a commit at this length: a commit that finds 256 versions over the base first folds them to a new one
+-- how many versions may stand over a base
+abbrev pub most_over_base : ℕ
+most_over_base = 256
+
+-- the current base after a commit at this length: a commit that finds as many versions over the base as may be first folds them to a new one
 abbrev pub base_after : ℕ → ℕ → ℕ
-base_after base length_before = cond (length_before - base == 256) length_before base
+base_after base length_before = cond (length_before - base == most_over_base) length_before base
 
 abbrev pub after_commit : Core → Commit → Core
 after_commit c commit = seen_peak (record c { log = c.log ++ commit ∷ []; base = base_after c.base (length c.log) })

@@ -17,13 +17,13 @@ use Rattle.pg_script.specs.declared.outcome.Outcome.{Outcome}
 use Rattle.pg_script.specs.Judged.{Judged, Session, Reading}
 use Rattle.pg_script.specs.Session.{printed}
 use Rattle.pgq.specs.declared.engine.Engine.{Engine}
-use Rattle.pgq.specs.Core.{Core, base_after}
+use Rattle.pgq.specs.Core.{Core, most_over_base, base_after}
 use Rattle.pgq.specs.Stepped.{now, follows_start, is_definition}
 use Rattle.pgq.specs.Language.{language, reads}
 
 -- how many writes the log may hold
-abbrev pub most_writes : ℕ
-most_writes = 4194304
+abbrev pub most_log_writes : ℕ
+most_log_writes = 4194304
 
 -- no two edge tables of a graph are one table
 abbrev pub AreSound : Defined → Type 0
@@ -37,9 +37,9 @@ pub record IsReady (e : Engine) : Type 0 where
   pub shapes_are : e.shapes ≡ shapes e.catalog
   pub sound : AreSound e.catalog
   pub held_all : e.held ≡ held e.log
-  pub room : held e.log ≤ most_writes
+  pub room : held e.log ≤ most_log_writes
   pub low : e.base ≤ length e.log
-  pub high : length e.log ≤ e.base + 256
+  pub high : length e.log ≤ e.base + most_over_base
   pub peak : 1 ≤ e.peak.0
 
 -- before the first statement
@@ -72,10 +72,15 @@ abbrev pub base_then : ℕ → ℕ → List Commit → Outcome → ℕ
 base_then base found [] o = cond (is_definition o) found base
 base_then base found (c ∷ cs) o = base_after base found
 
--- The peak after it. A commit that folds does so while its own statement has the older base pinned: both are kept.
+-- The peak after a commit that found this base and a log of this length. One that folds does so while its own statement has the older base
+-- pinned: both are kept.
+abbrev pub peak_after : ℕ → ℕ → ℕ × ℕ → ℕ × ℕ
+peak_after base found peak = cond (found - base == most_over_base) (cond (nat_lt peak.0 2) (2, 1) peak) peak
+
+-- the peak after a statement
 abbrev pub peak_then : ℕ → ℕ → List Commit → ℕ × ℕ → ℕ × ℕ
 peak_then base found [] peak = peak
-peak_then base found (c ∷ cs) peak = cond (found - base == 256) (cond (nat_lt peak.0 2) (2, 1) peak) peak
+peak_then base found (c ∷ cs) peak = peak_after base found peak
 
 -- a commit comes after a start, is no definition, and is the only one
 abbrev pub IsOne : Outcome → List Commit → Type 0
@@ -86,7 +91,7 @@ IsOne o (c ∷ cs) = (follows_start o ≡ true) × (is_definition o ≡ false) �
 pub record Answers (text : List ℕ) (n : ℕ) (e : Engine) (item : Item) (o : Outcome) (e' : Engine) : Type 0 where
   pub added : List Commit
   pub judged : (sections : ℕ) (counts : List ℕ) (outs : ℕ → List Outcome) (seen : ℕ)
-      → Judged (language text) (now most_writes (core_of sections counts e) outs added n) n seen (resting e.catalog) item o (resting e'.catalog)
+      → Judged (language text) (now most_log_writes (core_of sections counts e) outs added n) n seen (resting e.catalog) item o (resting e'.catalog)
   pub as_printed : length added ≡ length (printed o)
   pub one : IsOne o added
   pub log : e'.log ≡ e.log ++ added

@@ -9,7 +9,7 @@ use Rattle.pg_ast.specs.GraphEntries.{number_of}
 use Rattle.pg_write.specs.declared.fault.EffectFault.{EffectFault}
 use Rattle.pg_write.specs.PlainInsert.{Writes, Refuses, rows_of}
 use Rattle.pgq.specs.declared.engine.Engine.{Engine}
-use Rattle.pgq.specs.Language.{most_of_one}
+use Rattle.pgq.specs.Language.{most_transaction_writes}
 
 -- the table that an INSERT names, which stands in the catalog and among the lists of rows
 pub record IsTableOf (e : Engine) (i : Insert) (table : TableNo) : Type 0 where
@@ -21,10 +21,10 @@ pub record IsTableOf (e : Engine) (i : Insert) (table : TableNo) : Type 0 where
 pub record HasRows (e : Engine) (i : Insert) (table : TableNo) (ws : List Write) : Type 0 where
   pub shape : TableShape
   pub shape_at : slice_get e.shapes.tables table.0 ≡ Some shape
-  pub written : Writes most_of_one table shape (get_or e.tables.items table.0 []) (rows_of shape i) ws
+  pub written : Writes most_transaction_writes table shape (get_or e.tables.items table.0 []) (rows_of shape i) ws
 
 -- its first faulty row
 pub record HasNoRows (e : Engine) (i : Insert) (table : TableNo) (fault : EffectFault) : Type 0 where
   pub shape : TableShape
   pub shape_at : slice_get e.shapes.tables table.0 ≡ Some shape
-  pub refuses : Refuses most_of_one table shape (get_or e.tables.items table.0 []) (rows_of shape i) fault
+  pub refuses : Refuses most_transaction_writes table shape (get_or e.tables.items table.0 []) (rows_of shape i) fault

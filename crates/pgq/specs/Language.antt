@@ -111,8 +111,8 @@ resolves d i (Faulty kind at) = (f : ResolveFault) × (insert_fault d.0 i ≡ So
 resolves d i (Fine x) = (insert_fault d.0 i ≡ None) × (x ≡ resolved_insert d.0 i)
 
 -- how many writes a transaction may have
-abbrev pub most_of_one : ℕ
-most_of_one = 1048576
+abbrev pub most_transaction_writes : ℕ
+most_transaction_writes = 1048576
 
 abbrev pub column_called : Defined → TableNo → ℕ → List ℕ
 column_called d table column = unwrap_or (column_name_at d table column) []
@@ -129,8 +129,8 @@ refusal_of d table row row_faults.TooManyWrites = IsTooMany row
 -- rows are put into a table: the first faulty one, or the writes then
 abbrev pub IsInserted : Defined → Tables → List Write → TableNo → TableShape → List Row → Effect → Type 0
 IsInserted d tables ws table shape rows (Stopped refusal) =
-    (row : ℕ) × (fault : RowFault) × IsFirstFault most_of_one table shape tables ws rows row fault × (refusal ≡ refusal_of d table row fault)
-IsInserted d tables ws table shape rows (Done ws' n) = AreRight most_of_one table shape tables ws rows × (ws' ≡ with_rows table shape ws rows) × (n ≡ length rows)
+    (row : ℕ) × (fault : RowFault) × IsFirstFault most_transaction_writes table shape tables ws rows row fault × (refusal ≡ refusal_of d table row fault)
+IsInserted d tables ws table shape rows (Done ws' n) = AreRight most_transaction_writes table shape tables ws rows × (ws' ≡ with_rows table shape ws rows) × (n ≡ length rows)
 
 abbrev pub affects : Defined → Tables → List Write → CheckedChange → Effect → Type 0
 affects d tables ws (changes.Insert table columns tuples) e =

@@ -7,6 +7,7 @@ use Rattle.pg_value.specs.Log.{puts, held, conflict}
 use Rattle.pg_script.specs.declared.outcome.Outcome.{Outcome}
 use Rattle.pg_script.specs.Judged.{Session, Open}
 use Rattle.pg_script.specs.Session.{NumbersWithin, whole}
+use Rattle.pgq.specs.Core.{most_over_base}
 use Rattle.pgq.specs.Stepped.{World, now, outs_of, base_of}
 use Rattle.pgq.specs.LogLaws.{conflict_take, conflict_bounds}
 use Rattle.pgq.specs.Numbers.{numbers_take}
@@ -18,7 +19,7 @@ pub record Ready {K : Type 0} (w : World K) (n seen : ℕ) (s : Session K) : Typ
   pub low : seen ≤ length w.core.log
   pub exact : n ≡ 0 → length w.core.log ≡ seen
   pub from : (k : ℕ) → ((t : Open) × (s.open_ ≡ Some t) × (t.from ≡ k)) ⊎ ((s.open_ ≡ None) × (k ≡ length w.core.log)) → k ≤ length w.core.log
-  pub near : (k : ℕ) → ((t : Open) × (s.open_ ≡ Some t) × (t.from ≡ k)) ⊎ ((s.open_ ≡ None) × (k ≡ length w.core.log)) → (base_of w.core n ≤ k) × (k ≤ base_of w.core n + 256)
+  pub near : (k : ℕ) → ((t : Open) × (s.open_ ≡ Some t) × (t.from ≡ k)) ⊎ ((s.open_ ≡ None) × (k ≡ length w.core.log)) → (base_of w.core n ≤ k) × (k ≤ base_of w.core n + most_over_base)
   pub heard : (m : ℕ) → NumbersWithin (length w.core.log) 0 (outs_of w.runs m)
 
 take_whole : (log added : List Commit) → take (length log) (log ++ added) ≡ log

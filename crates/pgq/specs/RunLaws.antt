@@ -25,20 +25,20 @@ use Rattle.pg_script.specs.declared.outcome.Outcome.{Outcome}
 use Rattle.pg_script.specs.Judged.{Judges, Reading, Unread, Changes, Asks, Waits}
 use Rattle.pg_script.specs.Legal.{no_section, items_of}
 use Rattle.pgq.specs.declared.engine.Engine.{Engine}
-use Rattle.pgq.specs.Stepped.{World, Run, no_run, next_item, Turns, run_out, setup_turns, last_turns, first_world, Stepped, AreSessions}
+use Rattle.pgq.specs.Stepped.{World, Run, no_run, next_item, Turns, run_out, setup_turns, last_turns, first_world, Stepped, AreSessionTurns}
 use Rattle.pgq.specs.TurnsJoin.{turns_join, turns_both}
 use Rattle.pgq.specs.SteppedLegal.{stepped_legal}
 use Rattle.pgq.specs.Language.{says, reading_of, reads, language}
-use Rattle.pgq.specs.Engine.{most_writes, IsFirst}
+use Rattle.pgq.specs.Engine.{most_log_writes, IsFirst}
 use Rattle.pgq.specs.Sections.{world, counts_then, runs_then, IsWhole, closed, transcript, HaveAnswered, IsRunnable, IsRun}
 use Rattle.pgq.specs.SectionLaws.{counts_length}
 
 -- as many turns as the section has items
 whole_turns : (script : Script) (n : ℕ) (e e' : Engine) (outs : List Outcome) (sections : ℕ) (counts : List ℕ) (runs : List Run) → IsWhole script n e outs e'
     → n < length runs → n ≤ sections → length counts ≡ sections + 1 → get_or runs n no_run ≡ no_run
-    → Turns (language script.text) most_writes script (world sections counts runs e) (replicate (length (items_of script n)) n) (world sections (counts_then n (length outs) counts) (runs_then n outs runs) e')
+    → Turns (language script.text) most_log_writes script (world sections counts runs e) (replicate (length (items_of script n)) n) (world sections (counts_then n (length outs) counts) (runs_then n outs runs) e')
 whole_turns script n e e' outs sections counts runs w lt le len none =
-    subst (λ k. Turns (language script.text) most_writes script (world sections counts runs e) (replicate k n) (world sections (counts_then n (length outs) counts) (runs_then n outs runs) e')) w.all
+    subst (λ k. Turns (language script.text) most_log_writes script (world sections counts runs e) (replicate k n) (world sections (counts_then n (length outs) counts) (runs_then n outs runs) e')) w.all
     (w.answered script sections counts runs refl lt le len none)
 
 -- turns of a section that has answered all its items
@@ -66,18 +66,18 @@ first_is script first k e f = λ i. record {
 
 -- a script of a setup alone
 one_section : (script : Script) (s : Section) (first last : Engine) (outs : List Outcome) → script.sections ≡ s ∷ [] → script.order ≡ [] → IsFirst first → IsWhole script 0 first outs last
-    → Stepped (language script.text) nothing most_writes script (transcript script (outs ∷ []) last)
+    → Stepped (language script.text) nothing most_log_writes script (transcript script (outs ∷ []) last)
 one_section script s first last outs e empty f w =
     let J = language script.text in
     let w0 : World Defined = world 1 (replicate 2 0) (replicate 1 no_run) first in
     let w1 : World Defined = world 1 (counts_then 0 (length outs) (replicate 2 0)) (closed outs ∷ []) last in
-    let t : Turns J most_writes script w0 (setup_turns script) w1 = whole_turns script 0 first last outs 1 (replicate 2 0) (replicate 1 no_run) w (omega arith) (omega arith) refl refl in
+    let t : Turns J most_log_writes script w0 (setup_turns script) w1 = whole_turns script 0 first last outs 1 (replicate 2 0) (replicate 1 no_run) w (omega arith) (omega arith) refl refl in
     let rest : script.order ++ last_turns script ≡ [] = λ i. empty i ++ run_out 1 (drop 1 (e i)) in
     record {
       last = w1;
-      turns = turns_join J most_writes script (first_world script nothing) w1 w1 (setup_turns script) (script.order ++ last_turns script)
-          (subst (λ (x : World Defined). Turns J most_writes script x (setup_turns script) w1) (sym (first_is script first 1 (ap length e) f)) t)
-          (subst (λ ns. Turns J most_writes script w1 ns w1) (sym rest) refl);
+      turns = turns_join J most_log_writes script (first_world script nothing) w1 w1 (setup_turns script) (script.order ++ last_turns script)
+          (subst (λ (x : World Defined). Turns J most_log_writes script x (setup_turns script) w1) (sym (first_is script first 1 (ap length e) f)) t)
+          (subst (λ ns. Turns J most_log_writes script w1 ns w1) (sym rest) refl);
       is_transcript = refl;
     }
 
@@ -90,24 +90,24 @@ both_ones j k order last e f =
 -- a script of a setup and a session: behind the session's last item its turns do nothing
 two_sections : (script : Script) (s t : Section) (first middle last : Engine) (outs more : List Outcome) (k : ℕ) → script.sections ≡ s ∷ t ∷ [] → script.order ≡ replicate k 1 → IsFirst first
     → IsWhole script 0 first outs middle → IsWhole script 1 middle more last
-    → Stepped (language script.text) nothing most_writes script (transcript script (outs ∷ more ∷ []) last)
+    → Stepped (language script.text) nothing most_log_writes script (transcript script (outs ∷ more ∷ []) last)
 two_sections script s t first middle last outs more k e ones f v w =
     let J = language script.text in
     let w0 : World Defined = world 2 (replicate 3 0) (replicate 2 no_run) first in
     let w1 : World Defined = world 2 (counts_then 0 (length outs) (replicate 3 0)) (closed outs ∷ no_run ∷ []) middle in
     let w2 : World Defined = world 2 (counts_then 1 (length more) (counts_then 0 (length outs) (replicate 3 0))) (closed outs ∷ closed more ∷ []) last in
     let j : ℕ = length (items_of script 1) in
-    let t1 : Turns J most_writes script w0 (setup_turns script) w1 = whole_turns script 0 first middle outs 2 (replicate 3 0) (replicate 2 no_run) v (omega arith) (omega arith) refl refl in
-    let t2 : Turns J most_writes script w1 (replicate j 1) w2 = whole_turns script 1 middle last more 2 (counts_then 0 (length outs) (replicate 3 0)) (closed outs ∷ no_run ∷ []) w (omega arith) (omega arith) (counts_length 0 (length outs) (replicate 3 0)) refl in
+    let t1 : Turns J most_log_writes script w0 (setup_turns script) w1 = whole_turns script 0 first middle outs 2 (replicate 3 0) (replicate 2 no_run) v (omega arith) (omega arith) refl refl in
+    let t2 : Turns J most_log_writes script w1 (replicate j 1) w2 = whole_turns script 1 middle last more 2 (counts_then 0 (length outs) (replicate 3 0)) (closed outs ∷ no_run ∷ []) w (omega arith) (omega arith) (counts_length 0 (length outs) (replicate 3 0)) refl in
     let end : next_item script w2 1 ≡ None = slice_get_past (items_of script 1) (length more) (omega (arith, w.all)) in
-    let t3 : Turns J most_writes script w1 (replicate (j + k) 1) w2 = turns_both J most_writes script w1 w2 w2 1 j k t2 (idle_turns J most_writes script w2 1 k end) in
+    let t3 : Turns J most_log_writes script w1 (replicate (j + k) 1) w2 = turns_both J most_log_writes script w1 w2 w2 1 j k t2 (idle_turns J most_log_writes script w2 1 k end) in
     let same : last_turns script ≡ replicate j 1 = (λ i. run_out 1 (drop 1 (e i))) ∙ append-nil (replicate (length t.items) 1) ∙ ap (λ (ss : List Section). replicate (length (get_or ss 1 no_section).items) 1) (sym e) in
     let rest : replicate (j + k) 1 ≡ script.order ++ last_turns script = both_ones j k script.order (last_turns script) ones same in
     record {
       last = w2;
-      turns = turns_join J most_writes script (first_world script nothing) w1 w2 (setup_turns script) (script.order ++ last_turns script)
-          (subst (λ (x : World Defined). Turns J most_writes script x (setup_turns script) w1) (sym (first_is script first 2 (ap length e) f)) t1)
-          (subst (λ ns. Turns J most_writes script w1 ns w2) rest t3);
+      turns = turns_join J most_log_writes script (first_world script nothing) w1 w2 (setup_turns script) (script.order ++ last_turns script)
+          (subst (λ (x : World Defined). Turns J most_log_writes script x (setup_turns script) w1) (sym (first_is script first 2 (ap length e) f)) t1)
+          (subst (λ ns. Turns J most_log_writes script w1 ns w2) rest t3);
       is_transcript = refl;
     }
 
@@ -122,7 +122,7 @@ order_of_ones (n ∷ ns) h = let one : n ≡ 1 = omega (arith, h.0.0, h.0.1) in 
 
 stepped_of : (script : Script) (sections : List Section) (answers : List (List Outcome)) (first last : Engine) → script.sections ≡ sections → 0 < length sections → length sections ≤ 2
     → Each (λ n. (0 < n) × (n < length sections)) script.order → IsFirst first → HaveAnswered script 0 first answers last → length answers ≡ length sections
-    → Stepped (language script.text) nothing most_writes script (transcript script answers last)
+    → Stepped (language script.text) nothing most_log_writes script (transcript script answers last)
 stepped_of script [] answers first last e some few order f h all = absurd (omega (arith, some))
 stepped_of script (s ∷ t ∷ u ∷ sections) answers first last e some few order f h all = absurd (omega (arith, few))
 stepped_of script (s ∷ []) [] first last e some few order f h all = absurd (omega (arith, all))
@@ -166,15 +166,15 @@ pub never_waits : (text : List ℕ) (item : Item) (name : List ℕ) (m k : ℕ) 
 never_waits text (Sql from to) name m k r = read_no_wait r.0 name m k r.2
 never_waits text (After section n) name m k r = r
 
-are_sessions : (most : ℕ) (ns : List ℕ) → Each (λ n. (0 < n) × (n < most)) ns → AreSessions ns
+are_sessions : (most : ℕ) (ns : List ℕ) → Each (λ n. (0 < n) × (n < most)) ns → AreSessionTurns ns
 are_sessions most [] h = tt
 are_sessions most (n ∷ ns) h = ((λ z. omega (arith, z, h.0.0)), are_sessions most ns h.1)
 
 pub run_is : (script : Script) (answers : List (List Outcome)) (first last : Engine) → IsRunnable script → IsFirst first → HaveAnswered script 0 first answers last → length answers ≡ length script.sections
     → IsRun script (transcript script answers last)
 run_is script answers first last r f h all =
-    let s : Stepped (language script.text) nothing most_writes script (transcript script answers last) = stepped_of script script.sections answers first last refl r.some r.few r.order f h all in
+    let s : Stepped (language script.text) nothing most_log_writes script (transcript script answers last) = stepped_of script script.sections answers first last refl r.some r.few r.order f h all in
     record {
       stepped = s;
-      legal = stepped_legal (language script.text) nothing most_writes script (λ n k name m i item at reads. absurd (never_waits script.text item name m i reads)) (are_sessions (length script.sections) script.order r.order) (transcript script answers last) s;
+      legal = stepped_legal (language script.text) nothing most_log_writes script (λ n k name m i item at reads. absurd (never_waits script.text item name m i reads)) (are_sessions (length script.sections) script.order r.order) (transcript script answers last) s;
     }

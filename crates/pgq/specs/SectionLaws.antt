@@ -15,9 +15,9 @@ use Rattle.pgq.specs.Core.{Core, pin_count}
 use Rattle.pgq.specs.Stepped.{World, Run, no_run, outs_of, seen_at, now, acts, follows_start, is_definition, Did, Turns}
 use Rattle.pgq.specs.TurnsJoin.{turns_more}
 use Rattle.pgq.specs.Language.{language}
-use Rattle.pgq.specs.Engine.{most_writes, core_of, resting, base_then, peak_then, Answers}
+use Rattle.pgq.specs.Engine.{most_log_writes, core_of, resting, base_then, peak_then, Answers}
 use Rattle.pgq.specs.Sections.{world, counts_then, runs_then, HasAnswered, IsWhole, closed, HaveAnswered}
-use Rattle.pgq.specs.Alone.{IsAtRest, counted, acts_one, peak_then_some}
+use Rattle.pgq.specs.Alone.{IsAtRest, counted, acts_one}
 
 -- COUNTS
 counts_none : (n : ℕ) (counts : List ℕ) → counts_then n 0 counts ≡ counts
@@ -70,7 +70,7 @@ module _ (text : List ℕ) (n : ℕ) (e : Engine) (item : Item) (o : Outcome) (e
   -- in any script in which it is the next item of its section
   pub did_answer : (script : Script) (sections : ℕ) (counts : List ℕ) (runs : List Run) (outs : List Outcome) → get_or runs n no_run ≡ closed outs → n ≤ sections → 1 ≤ e.peak.0
       → slice_get (items_of script n) (length outs) ≡ Some item
-      → Did (language text) most_writes script (world sections counts runs e) n (world sections (counts_then n 1 counts) (runs_then n (outs ++ o ∷ []) runs) e')
+      → Did (language text) most_log_writes script (world sections counts runs e) n (world sections (counts_then n 1 counts) (runs_then n (outs ++ o ∷ []) runs) e')
   did_answer script sections counts runs outs is le peak next =
       let w : World Defined = world sections counts runs e in
       record {
@@ -79,7 +79,7 @@ module _ (text : List ℕ) (n : ℕ) (e : Engine) (item : Item) (o : Outcome) (e
         added = a.added;
         session = resting e'.catalog;
         next = ap (λ (r : Run). slice_get (items_of script n) (length r.outs)) is ∙ next;
-        judged = subst (λ (r : Run). Judged (language text) (now most_writes w.core (outs_of runs) a.added n) n (seen_at w n) (record { open_ = r.open_; catalog = e.catalog }) item o (resting e'.catalog)) (sym is) (a.judged sections counts (outs_of runs) (seen_at w n));
+        judged = subst (λ (r : Run). Judged (language text) (now most_log_writes w.core (outs_of runs) a.added n) n (seen_at w n) (record { open_ = r.open_; catalog = e.catalog }) item o (resting e'.catalog)) (sym is) (a.judged sections counts (outs_of runs) (seen_at w n));
         as_printed = a.as_printed;
         becomes = λ i. record {
           core = (core_after sections counts le peak ∙ ap (λ (r : Run). acts w.core n (is_none r.open_ && follows_start o) a.added (is_definition o) true) (sym is)) i;
@@ -87,10 +87,6 @@ module _ (text : List ℕ) (n : ℕ) (e : Engine) (item : Item) (o : Outcome) (e
           runs = slice_set runs n (record { outs = (sym is i).outs ++ o ∷ []; open_ = None });
         };
       }
-
--- the peak has counted the base after it too
-pub peak_kept : (text : List ℕ) (n : ℕ) (e : Engine) (item : Item) (o : Outcome) (e' : Engine) → Answers text n e item o e' → 1 ≤ e.peak.0 → 1 ≤ e'.peak.0
-peak_kept text n e item o e' a h = subst (λ (p : ℕ × ℕ). 1 ≤ p.0) (sym a.peak) (peak_then_some e.base (length e.log) a.added e.peak h)
 
 -- A SECTION
 
@@ -103,15 +99,15 @@ one_more text n items e e' e'' outs item o h next peak a = λ script sections co
     let w0 : World Defined = world sections counts runs e in
     let w : World Defined = world sections (counts_then n (length outs) counts) (runs_then n outs runs) e' in
     let w' : World Defined = world sections (counts_then n 1 (counts_then n (length outs) counts)) (runs_then n (outs ++ o ∷ []) (runs_then n outs runs)) e'' in
-    let d : Did (language text) most_writes script w n w' = did_answer text n e' item o e'' a script sections (counts_then n (length outs) counts) (runs_then n outs runs) outs
+    let d : Did (language text) most_log_writes script w n w' = did_answer text n e' item o e'' a script sections (counts_then n (length outs) counts) (runs_then n outs runs) outs
     (get_or-set_same runs n (closed outs) no_run lt) le peak (ap (λ (is : List Item). slice_get is (length outs)) same ∙ next) in
-    let t : Turns (language text) most_writes script w0 (replicate (suc (length outs)) n) w' = turns_more (language text) most_writes script w0 w w' n (length outs) (h script sections counts runs same lt le len none) (inr d) in
+    let t : Turns (language text) most_log_writes script w0 (replicate (suc (length outs)) n) w' = turns_more (language text) most_log_writes script w0 w w' n (length outs) (h script sections counts runs same lt le len none) (inr d) in
     let long : length outs + 1 ≡ length (outs ++ o ∷ []) = sym (length-append outs (o ∷ [])) in
     let next_one : suc (length outs) ≡ length (outs ++ o ∷ []) = omega (arith, long) in
     let becomes : w' ≡ world sections (counts_then n (length (outs ++ o ∷ [])) counts) (runs_then n (outs ++ o ∷ []) runs) e'' = λ i.
     world sections ((counts_more n (length outs) counts (omega (arith, le, len)) ∙ ap (λ k. counts_then n k counts) long) i) (set-set runs n (closed outs) (closed (outs ++ o ∷ [])) i) e'' in
-    subst (λ k. Turns (language text) most_writes script w0 (replicate k n) (world sections (counts_then n (length (outs ++ o ∷ [])) counts) (runs_then n (outs ++ o ∷ []) runs) e'')) next_one
-    (subst (λ x. Turns (language text) most_writes script w0 (replicate (suc (length outs)) n) x) becomes t)
+    subst (λ k. Turns (language text) most_log_writes script w0 (replicate k n) (world sections (counts_then n (length (outs ++ o ∷ [])) counts) (runs_then n (outs ++ o ∷ []) runs) e'')) next_one
+    (subst (λ x. Turns (language text) most_log_writes script w0 (replicate (suc (length outs)) n) x) becomes t)
 
 -- SECTIONS
 

@@ -15,7 +15,7 @@ use Rattle.pgq.specs.declared.engine.Engine.{Engine}
 use Rattle.pgq.specs.Stepped.{World, Run, no_run, Turns, section_outs, Stepped}
 use Rattle.pg_read.specs.Parsed.{IsPartAt}
 use Rattle.pgq.specs.Language.{language}
-use Rattle.pgq.specs.Engine.{most_writes, core_of}
+use Rattle.pgq.specs.Engine.{most_log_writes, core_of}
 
 abbrev pub world : ℕ → List ℕ → List Run → Engine → World Defined
 world sections counts runs e = record { core = core_of sections counts e; catalog = e.catalog; runs = runs }
@@ -24,25 +24,25 @@ world sections counts runs e = record { core = core_of sections counts e; catalo
 abbrev pub counts_then : ℕ → ℕ → List ℕ → List ℕ
 counts_then n k counts = cond (n == 0) counts (slice_set counts n (get_or counts n 0 + k))
 
+-- what a section has answered, with no transaction open
+abbrev pub closed : List Outcome → Run
+closed outs = record { outs = outs; open_ = None }
+
 -- the runs, when section n has answered so
 abbrev pub runs_then : ℕ → List Outcome → List Run → List Run
-runs_then n outs runs = slice_set runs n (record { outs = outs; open_ = None })
+runs_then n outs runs = slice_set runs n (closed outs)
 
--- Items of section n, from its first on, have answered so: in every script that begins the section with them, by as many turns of a stepped
--- run from any world in which the section has answered nothing.
+-- Items of section n, from its first on, have answered so: in every script whose section n is these items, by as many turns of a
+-- stepped run from any world in which the section has answered nothing.
 abbrev pub HasAnswered : List ℕ → ℕ → List Item → Engine → List Outcome → Engine → Type 0
 HasAnswered text n items e outs e' =
     (script : Script) (sections : ℕ) (counts : List ℕ) (runs : List Run) → items_of script n ≡ items → n < length runs → n ≤ sections → length counts ≡ sections + 1 → get_or runs n no_run ≡ no_run
-    → Turns (language text) most_writes script (world sections counts runs e) (replicate (length outs) n) (world sections (counts_then n (length outs) counts) (runs_then n outs runs) e')
+    → Turns (language text) most_log_writes script (world sections counts runs e) (replicate (length outs) n) (world sections (counts_then n (length outs) counts) (runs_then n outs runs) e')
 
 -- a section's items have all been answered
 pub record IsWhole (script : Script) (n : ℕ) (e : Engine) (outs : List Outcome) (e' : Engine) : Type 0 where
   pub answered : HasAnswered script.text n (items_of script n) e outs e'
   pub all : length outs ≡ length (items_of script n)
-
--- what a section has answered, with no transaction open
-abbrev pub closed : List Outcome → Run
-closed outs = record { outs = outs; open_ = None }
 
 -- the transcript of a script whose sections have answered so
 abbrev pub transcript : Script → List (List Outcome) → Engine → Transcript
@@ -73,5 +73,5 @@ pub record IsRunnable (script : Script) : Type 0 where
 
 -- the run of a script, which is a stepped run and legal
 pub record IsRun (script : Script) (t : Transcript) : Type 0 where
-  pub stepped : Stepped (language script.text) nothing most_writes script t
-  pub legal : Legal (language script.text) nothing most_writes script t
+  pub stepped : Stepped (language script.text) nothing most_log_writes script t
+  pub legal : Legal (language script.text) nothing most_log_writes script t

@@ -9,7 +9,7 @@ use Rattle.pg_script.specs.declared.script.Script.{Script}
 use Rattle.pg_script.specs.Judged.{Judges, Session, Open}
 use Rattle.pg_script.specs.Session.{all_printed, raised, NumbersWithin, whole, Runs}
 use Rattle.pg_script.specs.Legal.{items_of, places, setup_of}
-use Rattle.pgq.specs.Core.{pin_of}
+use Rattle.pgq.specs.Core.{pin_of, most_over_base}
 use Rattle.pgq.specs.Stepped.{World, no_run, outs_of, session_at, first_seen}
 use Rattle.pgq.specs.Acts.{IsNear, IsPeakFit}
 
@@ -20,7 +20,7 @@ first_session empty w n = record { open_ = None; catalog = cond (n == 0) empty w
 pub record IsPinned (log : List Commit) (pin : Option ℕ) (open_ : Option Open) (left : Type 0) : Type 0 where
   pub old : (t : Open) → open_ ≡ Some t → t.from ≤ length log
   pub free : open_ ≡ None → pin ≡ None
-  pub near : (t : Open) → open_ ≡ Some t → left → (b : ℕ) × (pin ≡ Some b) × (b ≤ t.from) × (t.from ≤ b + 256)
+  pub near : (t : Open) → open_ ≡ Some t → left → (b : ℕ) × (pin ≡ Some b) × (b ≤ t.from) × (t.from ≤ b + most_over_base)
 
 pub record SoFar {K D C Q X Y : Type 0} (J : Judges K D C Q X Y) (empty : K) (limit : ℕ) (script : Script) (w : World K) : Type 0 where
   pub lawful : IsLawful limit w.core.log

@@ -203,9 +203,9 @@ pub record Stepped {K D C Q X Y : Type 0} (J : Judges K D C Q X Y) (empty : K) (
 -- WHAT A SCRIPT'S SECTIONS KEEP
 
 -- these turns are sessions'
-abbrev pub AreSessions : List ℕ → Type 0
-AreSessions [] = Unit {0}
-AreSessions (n ∷ ns) = (n ≡ 0 → ⊥) × AreSessions ns
+abbrev pub AreSessionTurns : List ℕ → Type 0
+AreSessionTurns [] = Unit {0}
+AreSessionTurns (n ∷ ns) = (n ≡ 0 → ⊥) × AreSessionTurns ns
 
 -- a wait names an earlier section and one of its items
 abbrev pub Earlier : {K D C Q X Y : Type 0} → Judges K D C Q X Y → Script → Type 0

@@ -15,7 +15,7 @@ use Rattle.pg_script.specs.Judged.{Judges, Session}
 use Rattle.pg_script.specs.Session.{whole, Runs, raised, NumbersWithin, all_printed}
 use Rattle.pg_script.specs.Legal.{no_section, items_of, no_answers, outcomes_of, setup_of, IsLegalSection, Legal}
 use Rattle.pgq.specs.Core.{pin_of}
-use Rattle.pgq.specs.Stepped.{World, Run, no_run, outs_of, session_at, first_seen, moved, IsIdle, Turn, Turns, run_out, setup_turns, last_turns, first_world, section_outs, transcript_of, Stepped, AreSessions, Earlier}
+use Rattle.pgq.specs.Stepped.{World, Run, no_run, outs_of, session_at, first_seen, moved, IsIdle, Turn, Turns, run_out, setup_turns, last_turns, first_world, section_outs, transcript_of, Stepped, AreSessionTurns, Earlier}
 use Rattle.pgq.specs.TurnsJoin.{turns_split}
 use Rattle.pgq.specs.SoFar.{first_session, IsPinned, SoFar, InSetup}
 use Rattle.pgq.specs.KeepsLegal.{session_kept, setup_kept, has_section, take_none}
@@ -63,7 +63,7 @@ module _ {K D C Q X Y : Type 0} (J : Judges K D C Q X Y) (empty : K) (limit : �
       let k = setup_kept J empty limit script w 0 d.item d.outcome d.added d.session g d.next d.judged d.as_printed (λ e. i.exact) refl i in
       (subst Good (sym d.becomes) k.0, subst InSetup (sym d.becomes) k.1)
 
-  session_turns : (w w' : World K) (ns : List ℕ) → AreSessions ns → Good w → Turns J limit script w ns w' → Good w'
+  session_turns : (w w' : World K) (ns : List ℕ) → AreSessionTurns ns → Good w → Turns J limit script w ns w' → Good w'
   session_turns w w' [] z g t = subst Good (sym t) g
   session_turns w w' (n ∷ ns) z g t = session_turns t.0 w' ns z.1 (session_turn w t.0 n z.0 g t.1) t.2
 
@@ -209,7 +209,7 @@ module _ {K D C Q X Y : Type 0} (J : Judges K D C Q X Y) (empty : K) (limit : �
 
   -- In every script that is accepted a wait names an earlier section and one of its items, and the order names sessions.
   -- A number in the order that is no section's does nothing, so nothing is asked of it.
-  pub stepped_legal : Earlier J script → AreSessions script.order → (t : Transcript) → Stepped J empty limit script t → Legal J empty limit script t
+  pub stepped_legal : Earlier J script → AreSessionTurns script.order → (t : Transcript) → Stepped J empty limit script t → Legal J empty limit script t
   stepped_legal early order t s =
       let a = turns_split J limit script First s.last (setup_turns script) (script.order ++ last_turns script) s.turns in
       let b = turns_split J limit script a.0 s.last script.order (last_turns script) a.2 in
@@ -219,7 +219,7 @@ module _ {K D C Q X Y : Type 0} (J : Judges K D C Q X Y) (empty : K) (limit : �
       let still : (m : ℕ) → m < 1 → Finished b.0 m = λ m lt. (let x = zero_done.1 m (omega (arith, lt)) in let y = grown_all a.0 b.0 script.order m order one.0 b.1 in omega (arith, x, y)) in
       let r = run_all early (drop 1 script.sections) 1 b.0 s.last (λ e. omega (arith, e)) refl two still b.2 in
       subst (Legal J empty limit script) (sym s.is_transcript) (finished_legal s.last r.0 r.1) where
-        grown_all : (w w' : World K) (ns : List ℕ) (m : ℕ) → AreSessions ns → Good w → Turns J limit script w ns w' → length (outs_of w.runs m) ≤ length (outs_of w'.runs m)
+        grown_all : (w w' : World K) (ns : List ℕ) (m : ℕ) → AreSessionTurns ns → Good w → Turns J limit script w ns w' → length (outs_of w.runs m) ≤ length (outs_of w'.runs m)
         grown_all w w' [] m z g t = omega (arith, ap (λ (x : World K). length (outs_of x.runs m)) t)
         grown_all w w' (n ∷ ns) m z g t =
             let x = grown w t.0 n m g t.1 in

@@ -15,13 +15,7 @@ module _ {K D C Q X Y : Type 0} (J : Judges K D C Q X Y) (limit : ℕ) (script :
   turns_split w w' [] ms t = (w, refl, t)
   turns_split w w' (n ∷ ns) ms t = let h = turns_split t.0 w' ns ms t.2 in (h.0, (t.0, t.1, h.1), h.2)
 
-  pub turns_one : (w w' : World K) (n : ℕ) → Turn J limit script w n w' → Turns J limit script w (n ∷ []) w'
-  turns_one w w' n t = (w', t, refl)
-
-  -- one turn more of a section, before the others or after them
-  pub turns_first : (w m w' : World K) (n k : ℕ) → Turn J limit script w n m → Turns J limit script m (replicate k n) w' → Turns J limit script w (replicate (suc k) n) w'
-  turns_first w m w' n k t u = (m, t, u)
-
+  -- one turn more of a section, after the others
   pub turns_more : (w m w' : World K) (n k : ℕ) → Turns J limit script w (replicate k n) m → Turn J limit script m n w' → Turns J limit script w (replicate (suc k) n) w'
   turns_more w m w' n zero t u = (w', subst (λ (x : World K). Turn J limit script x n w') t u, refl)
   turns_more w m w' n (suc k) t u = (t.0, t.1, turns_more t.0 m w' n k t.2 u)

@@ -24,7 +24,7 @@ fn names_of(alloc: Global, columns: &[HopColumn]) -> Result<List<Text>, AllocErr
 }
 
 /// The answer of a query of one edge in a section: its rows in value order over the whole log, or the place at which it is
-/// refused.
+/// refused. Only want of memory gives none.
 pub fn ask(
     alloc: Global,
     engine: &Engine,

@@ -5,8 +5,8 @@ ghost use Rattle.pg_value.specs.Order.{key_cmp};
 ghost use Rattle.pg_value.specs.Log.{held};
 ghost use Rattle.pg_value.specs.TablesLaws.{key_of, key_named, put_in};
 ghost use Rattle.pgq.specs.Core.{base_after};
-ghost use Rattle.pgq.specs.Engine.{IsReady, most_writes};
-ghost use Rattle.pgq.specs.Commits.{HasRow, IsRowOf, IsAppended, IsCommitted, HasEnded, peak_after};
+ghost use Rattle.pgq.specs.Engine.{IsReady, most_log_writes, peak_after};
+ghost use Rattle.pgq.specs.Commits.{HasRow, IsRowOf, IsAppended, IsCommitted, HasEnded};
 
 use crate::engine::Engine;
 use crate::rows::put_rows;
@@ -15,7 +15,7 @@ use pg_value::{Commit, List, Stored, TableNo, Write, Writes};
 use std::alloc::{AllocError, Global};
 
 /// How many writes the log may hold.
-const MOST_WRITES: u64 = 4194304;
+const MOST_LOG_WRITES: u64 = 4_194_304;
 
 /// How many versions may stand over the base.
 const MOST_OVER_BASE: u64 = 256;
@@ -62,7 +62,7 @@ fn put_in_table(
 /// Appends a commit to the log, and counts it.
 fn append(engine: &mut Engine, commit: Commit) -> Result<(), AllocError>
     requires base { engine.old.base ≤ length engine.old.log }
-    requires room { engine.old.held + length commit.writes.list ≤ most_writes }
+    requires room { engine.old.held + length commit.writes.list ≤ most_log_writes }
     ensures appended { OnOk result (IsAppended commit engine.old engine.new) }
     ensures tables { OnOk result (engine.new.tables ≡ engine.old.tables) }
 {
@@ -86,7 +86,7 @@ fn accept(
     requires ready { IsReady engine.old }
     requires table { table.0 < length engine.old.tables.items }
     requires rows { Each (IsRowOf table) writes.list }
-    requires room { held engine.old.log + length writes.list ≤ most_writes }
+    requires room { held engine.old.log + length writes.list ≤ most_log_writes }
     ensures ready { OnOk result (IsReady engine.new) }
     ensures committed { OnOk result (IsCommitted section engine.old writes.list engine.new) }
     ensures outcome { IfOk result (λ o. o ≡ Outcome.ChangedAlone (length writes.list) (length engine.old.log) (length engine.old.log + 1)) }
@@ -125,7 +125,7 @@ pub fn commit(
     if count == 0 {
         return Ok(Outcome::Changed { rows: 0, at });
     }
-    if count > MOST_WRITES - engine.held {
+    if count > MOST_LOG_WRITES - engine.held {
         return Ok(Outcome::LogFull {
             from: at,
             held: engine.held,

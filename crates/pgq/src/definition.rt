@@ -39,7 +39,11 @@ fn add_table(
 }
 
 /// After the catalog has taken a definition: everything is folded to a base at the log's length.
-fn defined(alloc: Global, engine: &mut Engine, definition: &Define) -> Result<Outcome, AllocError>
+fn finish_definition(
+    alloc: Global,
+    engine: &mut Engine,
+    definition: &Define,
+) -> Result<Outcome, AllocError>
     ensures engine { OnOk result (IsDefinedBy definition.now engine.old engine.new) }
     ensures outcome { IfOk result (λ o. o ≡ Outcome.Defined (name_of definition.now) (length engine.old.log)) }
 {
@@ -52,7 +56,7 @@ fn defined(alloc: Global, engine: &mut Engine, definition: &Define) -> Result<Ou
 }
 
 /// Carries out a definition, whose statement begins at a place. Only the setup may define; a session is refused there, and
-/// so is a definition with a fault, at the fault's place. After a refusal the engine is as before.
+/// so is a definition with a fault, at the fault's place. After a refusal the engine is as before; after want of memory it is of no use.
 pub fn define(
     alloc: Global,
     engine: &mut Engine,
@@ -71,7 +75,7 @@ pub fn define(
         });
     }
     match engine.catalog.define(alloc, definition) {
-        Ok(()) => defined(alloc, engine, definition),
+        Ok(()) => finish_definition(alloc, engine, definition),
         Err(fault) => define_refusal(fault),
     }
 }

@@ -19,7 +19,7 @@ use pg_write::{EffectFault, insert_rows, resolve_insert};
 use std::alloc::{AllocError, Global};
 
 /// How many writes one transaction may have.
-const MOST_WRITES: u64 = 1_048_576;
+const MOST_TRANSACTION_WRITES: u64 = 1_048_576;
 
 /// The writes of an INSERT into a table, over its rows.
 fn writes_of(
@@ -37,7 +37,7 @@ fn writes_of(
     let at = table.0 as usize;
     let shape = engine.shapes.tables.at(at);
     let held = engine.tables[at].as_slice();
-    insert_rows(alloc, MOST_WRITES, table, shape, held, insert)
+    insert_rows(alloc, MOST_TRANSACTION_WRITES, table, shape, held, insert)
 }
 
 /// The name of a column.
@@ -133,7 +133,8 @@ fn insert_into(
 }
 
 /// Carries out an INSERT of literals: its rows are one commit, or it is refused and the engine is as before. It is refused at
-/// a place before it reads the tables, or at its first faulty row, or because the log has no room for its writes.
+/// a place before it reads the tables, or at its first faulty row, or because the log has no room for its writes. After want of
+/// memory the engine is of no use.
 pub fn insert(
     alloc: Global,
     engine: &mut Engine,

@@ -27,26 +27,26 @@ fn not_yet(at: u32) -> Outcome
 }
 
 /// Carries out an INSERT that begins at a place, or refuses it there where it is not run yet.
-fn change(
+fn run_insert(
     alloc: Global,
     engine: &mut Engine,
     section: u32,
-    change: &Insert,
+    statement: &Insert,
     at: u32,
 ) -> Result<Outcome, AllocError>
     requires { IsReady engine.old }
     ensures ready { OnOk result (IsReady engine.new) }
-    ensures answers { IfOk result (λ o. AnswersTo (says_insert at change.now) section engine.old o engine.new) }
+    ensures answers { IfOk result (λ o. AnswersTo (says_insert at statement.now) section engine.old o engine.new) }
 {
-    if is_plain(change) {
-        insert(alloc, engine, section, change)
+    if is_plain(statement) {
+        insert(alloc, engine, section, statement)
     } else {
         Ok(not_yet(at))
     }
 }
 
 /// Answers a query that begins at a place, or refuses it there where it is not run yet.
-fn query(
+fn run_query(
     alloc: Global,
     engine: &Engine,
     section: u32,
@@ -77,8 +77,8 @@ fn carry_out(
 {
     match tree {
         Statement::Define(definition) => define(alloc, engine, section, definition, at),
-        Statement::Insert(insert) => change(alloc, engine, section, insert, at),
-        Statement::Query(asked) => query(alloc, engine, section, asked, at),
+        Statement::Insert(insert) => run_insert(alloc, engine, section, insert, at),
+        Statement::Query(query) => run_query(alloc, engine, section, query, at),
         Statement::Update(_) => Ok(not_yet(at)),
         Statement::Delete(_) => Ok(not_yet(at)),
         Statement::Begin => Ok(not_yet(at)),
@@ -87,7 +87,9 @@ fn carry_out(
     }
 }
 
-/// Answers the statement of a section from one place of the text up to another.
+/// Answers the statement of a section from one place of the text up to another: Syntax at the first token that no statement
+/// continues, NotYet at its first token where it is not run yet, and else by the catalog, the tables and the log. After want
+/// of memory the engine is of no use.
 pub fn answer(
     alloc: Global,
     text: &Text,

@@ -1,3 +1,4 @@
+//! How a run ends: its number, and its line on standard error.
 ghost use Rattle.std.specs.Prelude.{◌≡◌, ◌↔◌, IsNone};
 ghost use Rattle.pgq.specs.Status.{number_of};
 
@@ -19,7 +20,7 @@ pub enum Status {
     ReadFault,
     /// A write failed. What the sink took is a front of a text that could have been written whole.
     WriteFault,
-    /// Memory was wanted. Nothing was written.
+    /// Memory ran out. Nothing was written.
     Memory,
     /// The source was read to its end and is a script of two or more sessions, which is not run yet. Nothing was written.
     NotYet,
@@ -87,7 +88,7 @@ impl Status {
         }
     }
 
-    /// Prints the status's line on standard error. `Done` has none.
+    /// Prints the status's line on standard error; `Done` has none. The error is that of the stream.
     pub fn report(self, rt: &impl Eprint) -> io::Result<()> {
         match self.fault() {
             Some(fault) => rt.eprintln(fault),

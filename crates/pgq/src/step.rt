@@ -1,3 +1,4 @@
+//! A stepped run from source to sink.
 ghost use Rattle.std.specs.Prelude.{◌≡◌, ◌≤◌, IfOk, IfErr};
 ghost use Rattle.pgq.specs.declared.step.NoText.TheVariants as no_text;
 ghost use Rattle.pgq.specs.Headline.{StepMeans, IsTextOf, IsNoText};
@@ -49,7 +50,7 @@ fn transcript_text(alloc: Global, bytes: &[u8]) -> Result<Text, NoText>
     Ok(text)
 }
 
-/// Reads a script from the source, runs it turn by turn, and writes the text of its transcript to the sink. It waits for
+/// Reads a script from the source, runs its statements one after another, and writes the text of its transcript to the sink. It waits for
 /// nobody. At most 16,777,217 bytes are read, and the whole text is made before the first write.
 pub fn stepped<I: Source, O: Sink>(alloc: Global, source: &mut I, sink: &mut O) -> Status
     ensures means { StepMeans (I.left source.old) (I.left source.new) (I.faults source.old) (I.faults source.new)

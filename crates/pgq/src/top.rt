@@ -1,3 +1,4 @@
+//! The program's top call.
 ghost use Rattle.std.specs.Prelude.{◌≡◌, ◌≤◌};
 ghost use Rattle.pgq.specs.Headline.{TopMeans};
 

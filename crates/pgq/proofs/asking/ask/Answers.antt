@@ -10,7 +10,7 @@ use Rattle.pgq.proofs.Asked.{all_ascend, answered, faulty_ok}
 use Rattle.pgq.proofs.asking.ask.Goals as goal
 
 pub returns-in-Err : goal.returns-in-Err
-returns-in-Err c = faulty_ok c.args.engine.now c.args.query.now c.args.section c.in-Err.fault c.check_refusal.result c.in-Err.ensures.fault c.check_refusal.ensures
+returns-in-Err c = faulty_ok c.args.engine.now c.args.query.now c.args.section c.in-Err.fault c.check_refusal.result c.in-Err.ensures.fault c.check_refusal.ensures.refusal
 
 pub hop_rows-requires : goal.hop_rows-requires
 hop_rows-requires c = subst (Each (Ascends key_of key_cmp)) (sym c.as_slice.ensures.value) (all_ascend c.args.engine.now c.requires.ready)

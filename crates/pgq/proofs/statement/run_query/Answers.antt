@@ -3,7 +3,7 @@ use Rattle.pg_script.specs.declared.outcome.FaultKind.TheVariants.{NotYet}
 use Rattle.pg_script.specs.Judged.{Unread, Asks}
 use Rattle.pgq.specs.Language.{says_query}
 use Rattle.pgq.proofs.Outcomes.{not_run}
-use Rattle.pgq.proofs.statement.query.Goals as goal
+use Rattle.pgq.proofs.statement.run_query.Goals as goal
 
 pub returns-else-is_one_hop : goal.returns-else-is_one_hop
 returns-else-is_one_hop c = not_run c.args.section c.args.engine.now (says_query c.args.at c.args.query.now) c.args.at c.not_yet.result
