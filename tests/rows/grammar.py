@@ -173,7 +173,7 @@ def spoiled(draw, tokens):
 
 
 def random_session(draw, count):
-    """A session of so many statements, and for each its text and the byte at which it is no statement, or None."""
+    """A session of so many statements, and for each its text, its first word, the byte of that, and the byte at which it is no statement, or None."""
     text, wanted = "@session a\n", []
     while len(wanted) < count:
         tokens = derive(draw, "statement")[:-1]
@@ -186,5 +186,5 @@ def random_session(draw, count):
             text += token.lower() if sort == "w" and draw.random() < 0.5 else token
         fault = first_fault(tokens)
         # what stands behind the semicolon belongs to the next statement
-        wanted.append((text[start:], None if fault is None else places[fault]))
+        wanted.append((text[start:], tokens[0][1].upper(), places[0], None if fault is None else places[fault]))
     return text.encode(), wanted
