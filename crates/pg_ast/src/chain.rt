@@ -3,7 +3,7 @@ use crate::{Arrow, Filler};
 use pg_value::List;
 
 /// Nodes with edges between them, in their order of writing: one more node than there are arrows and edges.
-#[derive(Debug, Drop)]
+#[derive(Drop)]
 pub struct Chain {
     pub nodes: List<Filler>,
     pub arrows: List<Arrow>,

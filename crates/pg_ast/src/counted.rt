@@ -2,14 +2,14 @@
 use crate::{Agg, BinOp, Expr, LabelExpr, Whole};
 
 /// A label expression, and how many more operators may stand behind it.
-#[derive(Debug, Drop)]
+#[derive(Drop)]
 pub struct CountedLabel {
     pub label: LabelExpr,
     pub left: u8,
 }
 
 /// Where an expression stands, which says what it may refer to.
-#[derive(Clone, Copy, Debug, PartialEq, Eq)]
+#[derive(Clone, Copy)]
 pub enum Scope {
     /// INSERT: to nothing, and no aggregate stands.
     Insert,
@@ -20,14 +20,14 @@ pub enum Scope {
 }
 
 /// An operator between two operands, and its place.
-#[derive(Clone, Copy, Debug, PartialEq, Eq)]
+#[derive(Clone, Copy)]
 pub struct Operator {
     pub op: BinOp,
     pub at: u32,
 }
 
 /// An aggregate's word, and its place.
-#[derive(Clone, Copy, Debug, PartialEq, Eq)]
+#[derive(Clone, Copy)]
 pub struct AggWord {
     pub agg: Agg,
     pub at: u32,
@@ -35,7 +35,7 @@ pub struct AggWord {
 
 /// An expression, and how many more operators may stand behind it. It is plain where it is a variable's property with
 /// no parentheses around it: `name . name` and nothing else.
-#[derive(Debug, Drop)]
+#[derive(Drop)]
 pub struct CountedExpr {
     pub expr: Expr,
     pub left: u8,
@@ -43,7 +43,7 @@ pub struct CountedExpr {
 }
 
 /// An expression that stands in no other, and whether it is plain.
-#[derive(Debug, Drop)]
+#[derive(Drop)]
 pub struct CountedWhole {
     pub whole: Whole,
     pub plain: bool,

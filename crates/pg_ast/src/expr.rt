@@ -5,14 +5,14 @@ use pg_value::{Text, Value};
 use sqlite_items::Boxed;
 
 /// A name, and the place of its first byte. Its text is folded to upper case, or exact where it was written in `"`.
-#[derive(Debug, Drop)]
+#[derive(Drop)]
 pub struct Name {
     pub text: Text,
     pub at: u32,
 }
 
 /// An operator before or behind one operand: `-`, NOT, IS NULL, IS NOT NULL.
-#[derive(Clone, Copy, Debug, PartialEq, Eq)]
+#[derive(Clone, Copy)]
 pub enum UnOp {
     Minus,
     Not,
@@ -21,7 +21,7 @@ pub enum UnOp {
 }
 
 /// An operator between two operands: OR, AND, `=`, `<>`, `<`, `<=`, `>`, `>=`, `+`, `-`, `*`.
-#[derive(Clone, Copy, Debug, PartialEq, Eq)]
+#[derive(Clone, Copy)]
 pub enum BinOp {
     Or,
     And,
@@ -37,7 +37,7 @@ pub enum BinOp {
 }
 
 /// An aggregate function over the elements of a group variable.
-#[derive(Clone, Copy, Debug, PartialEq, Eq)]
+#[derive(Clone, Copy)]
 pub enum Agg {
     Count,
     Sum,
@@ -47,7 +47,7 @@ pub enum Agg {
 
 /// An expression as it is written (ISO/IEC 9075-2:2023, value expression). `at` is the place of the literal, of the
 /// operator's own word or symbol, which is IS for the two tests of NULL, or of the aggregate's word.
-#[derive(Debug, Drop)]
+#[derive(Drop)]
 pub enum Expr {
     /// A number, a text, TRUE, FALSE or NULL. `bits` is a number's count of binary digits, and 0 for other literals.
     Lit {
@@ -92,7 +92,7 @@ pub enum Expr {
 }
 
 /// An expression that stands in no other, and the place of its first token, a `(` included.
-#[derive(Debug, Drop)]
+#[derive(Drop)]
 pub struct Whole {
     pub expr: Expr,
     pub at: u32,

@@ -3,14 +3,14 @@ use crate::{ColumnType, Name};
 use pg_value::List;
 
 /// NOT NULL or PRIMARY KEY behind a column.
-#[derive(Clone, Copy, Debug, PartialEq, Eq)]
+#[derive(Clone, Copy, PartialEq, Eq)]
 pub enum Mark {
     NotNull,
     Primary,
 }
 
 /// A column with its marks in text order, or the names of a PRIMARY KEY clause.
-#[derive(Debug, Drop)]
+#[derive(Drop)]
 pub enum Item {
     Column {
         name: Name,

@@ -5,7 +5,7 @@ use sqlite_items::Boxed;
 
 /// Which element tables a node or an edge admits: all (`%`), those with a label, and complement (`!`), intersection (`&`)
 /// and union (`|`).
-#[derive(Debug, Drop)]
+#[derive(Drop)]
 pub enum LabelExpr {
     All,
     Is(Name),
@@ -15,7 +15,7 @@ pub enum LabelExpr {
 }
 
 /// What stands in a node or an edge: its variable, its labels, its own condition, and the place of its first token.
-#[derive(Debug, Drop)]
+#[derive(Drop)]
 pub struct Filler {
     pub var: Option<Name>,
     pub label: Option<LabelExpr>,
@@ -24,7 +24,7 @@ pub struct Filler {
 }
 
 /// Which way an edge points: `-[]->`, `<-[]-`, or `-[]-` for either.
-#[derive(Clone, Copy, Debug, PartialEq, Eq)]
+#[derive(Clone, Copy)]
 pub enum Arrow {
     Right,
     Left,
@@ -33,7 +33,7 @@ pub enum Arrow {
 
 /// How often a part is repeated, with the place of its first token. Without `high` there is no upper number. A written
 /// number above 2^32 - 1 is kept as 2^32 - 1.
-#[derive(Clone, Copy, Debug, PartialEq, Eq)]
+#[derive(Clone, Copy)]
 pub struct Quant {
     pub low: u32,
     pub high: Option<u32>,
@@ -41,7 +41,7 @@ pub struct Quant {
 }
 
 /// A part of a path pattern. A group has one more node than it has arrows and edges, in their order of writing.
-#[derive(Debug, Drop)]
+#[derive(Drop)]
 pub enum Part {
     Node(Filler),
     Edge {
@@ -60,7 +60,7 @@ pub enum Part {
 
 /// Which walks a path pattern allows: every one, those that repeat no edge, those that repeat no vertex, those that
 /// repeat no vertex but may end where they begin.
-#[derive(Clone, Copy, Debug, PartialEq, Eq)]
+#[derive(Clone, Copy)]
 pub enum Mode {
     Walk,
     Trail,
@@ -70,7 +70,7 @@ pub enum Mode {
 
 /// Which of the allowed bindings of a pair of first and last vertex are kept: all, any one, any one of least length, all
 /// of least length.
-#[derive(Clone, Copy, Debug, PartialEq, Eq)]
+#[derive(Clone, Copy)]
 pub enum Selector {
     Every,
     Any,
@@ -79,7 +79,7 @@ pub enum Selector {
 }
 
 /// A path pattern, and the place of its first token.
-#[derive(Debug, Drop)]
+#[derive(Drop)]
 pub struct PathPattern {
     pub selector: Selector,
     pub mode: Mode,
@@ -88,14 +88,14 @@ pub struct PathPattern {
 }
 
 /// An item of COLUMNS. Without AS its name is its property's.
-#[derive(Debug, Drop)]
+#[derive(Drop)]
 pub struct ColumnItem {
     pub expr: Whole,
     pub name: Name,
 }
 
 /// `SELECT * FROM GRAPH_TABLE (graph MATCH paths WHERE cond COLUMNS (columns))`.
-#[derive(Debug, Drop)]
+#[derive(Drop)]
 pub struct Query {
     pub graph: Name,
     pub paths: List<PathPattern>,

@@ -3,40 +3,40 @@ use crate::{Define, Name, Query, Whole};
 use pg_value::List;
 
 /// A tuple of VALUES, and the place of its `(`.
-#[derive(Debug, Drop)]
+#[derive(Drop)]
 pub struct InsertTuple {
     pub values: List<Whole>,
     pub at: u32,
 }
 
 /// INSERT. Without a list of columns, all of the table's columns are meant, in their order.
-#[derive(Debug, Drop)]
+#[derive(Drop)]
 pub struct Insert {
     pub table: Name,
     pub columns: Option<List<Name>>,
     pub tuples: List<InsertTuple>,
 }
 
-#[derive(Debug, Drop)]
+#[derive(Drop)]
 pub struct SetItem {
     pub column: Name,
     pub value: Whole,
 }
 
-#[derive(Debug, Drop)]
+#[derive(Drop)]
 pub struct Update {
     pub table: Name,
     pub sets: List<SetItem>,
     pub cond: Option<Whole>,
 }
 
-#[derive(Debug, Drop)]
+#[derive(Drop)]
 pub struct Delete {
     pub table: Name,
     pub cond: Option<Whole>,
 }
 
-#[derive(Debug, Drop)]
+#[derive(Drop)]
 pub enum Statement {
     Define(Define),
     Insert(Insert),

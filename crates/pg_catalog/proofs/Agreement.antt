@@ -7,14 +7,15 @@ use Rattle.std.specs.Str.{bytes_eq}
 use Rattle.std.specs.Cmp.Lexicographic.{bytes_decides}
 use Rattle.pg_value.specs.declared.value.Kind.{Kind}
 use Rattle.pg_value.specs.declared.value.Kind.TheVariants as kinds
-use Rattle.pg_ast.specs.declared.entry.ElementEntry.{ElementEntry}
-use Rattle.pg_ast.specs.GraphJudgement.{Row, rows, same_kind, has_row, is_row, has_other_kind, labels_in, lacks, clash, two_columns, first_column, is_place}
-use Rattle.pg_ast.specs.TableJudgement.{member}
-use Rattle.pg_catalog.specs.Passes.{add, add_by, add_all, member_by}
+use Rattle.pg_rules.specs.declared.entry.ElementEntry.{ElementEntry}
+use Rattle.pg_rules.specs.Definitions.Graphs.{Row, rows, has_row, is_row, has_other_kind, labels_in, lacks, clash, two_columns, first_column, is_place}
+use Rattle.pg_value.specs.Kinds.{same_kind}
+use Rattle.pg_rules.specs.Definitions.Tables.{member}
+use Rattle.pg_catalog.specs.NameSets.{add, add_by, add_all, member_by}
 use Rattle.pg_catalog.specs.PropertyRows.{of_kind, names_after, clash_with, pair_eq, pairs_after, lacks_of, lacks_by_kind, clash_by_kind, add_first, firsts_after, other_column}
 use Rattle.pg_catalog.proofs.NameSets.{member_add_by, member_all, or_false, or_swap, and_true}
 
--- ---- some item
+-- SOME ITEM
 
 any_same : {X : Type 0} (f g : X → Bool) → ((x : X) → f x ≡ g x) → (xs : List X) → list_any f xs ≡ list_any g xs
 any_same f g h [] = refl
@@ -42,7 +43,7 @@ any_and false f xs = any_none xs
 any_three : {X : Type 0} (f g h : X → Bool) (xs : List X) → list_any (λ x. f x || (g x || h x)) xs ≡ (list_any f xs || (list_any g xs || list_any h xs))
 any_three f g h xs = any_or f (λ x. g x || h x) xs ∙ ap (λ b. list_any f xs || b) (any_or g h xs)
 
--- ---- names and pairs of one kind
+-- NAMES AND PAIRS OF ONE KIND
 
 bytes_exact : (a b : List ℕ) → bytes_eq a b ≡ true → a ≡ b
 bytes_exact a b h = (bytes_decides a b).0 h
@@ -68,7 +69,7 @@ pairs_from kind m seen (r ∷ rs) =
     ∙ ap (λ b. b || list_any (λ (q : Row). of_kind kind q && pair_eq m (q.label, q.property.name)) rs) (added_if pair_eq pair_exact (of_kind kind r) m (r.label, r.property.name) seen)
     ∙ or_swap (member_by pair_eq m seen) (of_kind kind r && pair_eq m (r.label, r.property.name)) (list_any (λ (q : Row). of_kind kind q && pair_eq m (q.label, q.property.name)) rs)
 
--- ---- another kind
+-- ANOTHER KIND
 
 split_other : (b : Bool) (a k : Kind) → (b && not (same_kind a k)) ≡ ((not (same_kind kinds.Int a) && (same_kind kinds.Int k && b)) || ((not (same_kind kinds.Text a) && (same_kind kinds.Text k && b)) || (not (same_kind kinds.Bool a) && (same_kind kinds.Bool k && b))))
 split_other true kinds.Int kinds.Int = refl
@@ -106,7 +107,7 @@ clash_by_kinds qs rs =
     any_same (has_other_kind qs) (λ r. part kinds.Int r || (part kinds.Text r || part kinds.Bool r)) (clash_row qs) rs
     ∙ any_three (part kinds.Int) (part kinds.Text) (part kinds.Bool) rs
 
--- ---- a property that a label of another table has not
+-- A PROPERTY THAT A LABEL OF ANOTHER TABLE HAS NOT
 
 choose : (kind : Kind) (p : Kind → Bool) → p kind ≡ ((same_kind kinds.Int kind && p kinds.Int) || ((same_kind kinds.Text kind && p kinds.Text) || (same_kind kinds.Bool kind && p kinds.Bool)))
 choose kinds.Int p = sym (or_false (p kinds.Int))
@@ -142,7 +143,7 @@ lacks_by_kinds ls qs rs =
     any_same (λ (r : Row). member r.label ls && not (has_row qs r)) (λ r. part kinds.Int r || (part kinds.Text r || part kinds.Bool r)) each rs
     ∙ any_three (part kinds.Int) (part kinds.Text) (part kinds.Bool) rs
 
--- ---- the first column of each name
+-- THE FIRST COLUMN OF EACH NAME
 
 or_none : {X : Type 0} (o : Option X) → option_or o None ≡ o
 or_none None = refl
@@ -190,16 +191,17 @@ firsts_from n seen (r ∷ rs) =
 pub columns_by_firsts : (rs : List Row) → two_columns rs ≡ other_column (firsts_after [] rs) rs
 columns_by_firsts rs = any_same (λ (r : Row). not (is_place (first_column rs r.property.name) r.property.column)) (λ r. not (is_place (lookup (bytes_eq r.property.name) (firsts_after [] rs)) r.property.column)) (λ r. ap (λ o. not (is_place o r.property.column)) (sym (firsts_from r.property.name [] rs))) rs
 
--- ---- the same from the parts that the code finds
+-- WHAT THE CODE FINDS
 
-pub lacks_joined : (e f : ElementEntry) (ls : List (List ℕ)) (qs rs : List Row) (r : Bool) → ls ≡ add_all [] (labels_in e) → qs ≡ rows e → rs ≡ rows f → r ≡ lacks_by_kind ls qs rs → r ≡ lacks e f
-lacks_joined e f ls qs rs r hl hq hr h =
-    h ∙ ap (λ l. lacks_by_kind l qs rs) hl ∙ ap (λ q. lacks_by_kind (add_all [] (labels_in e)) q rs) hq ∙ ap (λ s. lacks_by_kind (add_all [] (labels_in e)) (rows e) s) hr
-    ∙ sym (lacks_by_kinds (labels_in e) (rows e) (rows f))
+-- the rows that the code finds are those of the element tables
+pub lacks_found : (ls : List (List ℕ)) (e f : ElementEntry) (qs rs : List Row) → qs ≡ rows e → rs ≡ rows f → lacks_by_kind ls qs rs ≡ lacks_by_kind ls (rows e) (rows f)
+lacks_found ls e f qs rs hq hr = λ i. lacks_by_kind ls (hq i) (hr i)
 
-pub clash_joined : (e f : ElementEntry) (qs rs : List Row) (r : Bool) → qs ≡ rows e → rs ≡ rows f → r ≡ clash_by_kind qs rs → r ≡ clash e f
-clash_joined e f qs rs r hq hr h = h ∙ ap (λ q. clash_by_kind q rs) hq ∙ ap (λ s. clash_by_kind (rows e) s) hr ∙ sym (clash_by_kinds (rows e) (rows f))
+pub lacks_is : (e f : ElementEntry) (ls : List (List ℕ)) → ls ≡ add_all [] (labels_in e) → lacks_by_kind ls (rows e) (rows f) ≡ lacks e f
+lacks_is e f ls hl = ap (λ l. lacks_by_kind l (rows e) (rows f)) hl ∙ sym (lacks_by_kinds (labels_in e) (rows e) (rows f))
 
-pub columns_joined : (e : ElementEntry) (m : List (List ℕ × ℕ)) (rs : List Row) (r : Bool) → rs ≡ rows e → m ≡ firsts_after [] rs → r ≡ other_column m rs → r ≡ two_columns (rows e)
-columns_joined e m rs r hr hm h =
-    h ∙ ap (λ l. other_column l rs) hm ∙ ap (λ q. other_column (firsts_after [] q) q) hr ∙ sym (columns_by_firsts (rows e))
+pub clash_is : (e f : ElementEntry) (qs rs : List Row) → qs ≡ rows e → rs ≡ rows f → clash_by_kind qs rs ≡ clash e f
+clash_is e f qs rs hq hr = (λ i. clash_by_kind (hq i) (hr i)) ∙ sym (clash_by_kinds (rows e) (rows f))
+
+pub columns_is : (e : ElementEntry) (rs : List Row) → rs ≡ rows e → other_column (firsts_after [] rs) rs ≡ two_columns (rows e)
+columns_is e rs hr = (λ i. other_column (firsts_after [] (hr i)) (hr i)) ∙ sym (columns_by_firsts (rows e))

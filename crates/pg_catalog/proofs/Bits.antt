@@ -3,10 +3,10 @@ use Rattle.std.proofs.Common.{◌≡◌, ℕ, refl, ap, sym, ◌∙◌, arith, B
 use Rattle.std.specs.Prelude.{◌||◌, cond, filter}
 use Rattle.std.specs.Int.{bit_at}
 use Rattle.std.proofs.lemmas.Nat.Bits.{bit_at_set_same, bit_at_set_other, bit_at-lt, bit_at-zero}
-use Rattle.pg_ast.specs.declared.entry.ElementEntry.{ElementEntry}
-use Rattle.pg_ast.specs.Labels.{LabelTree}
-use Rattle.pg_ast.specs.GraphLookUps.{admitted, bit, has_number}
-use Rattle.pg_catalog.specs.LookUpPasses.{is_admitted, with, with_if}
+use Rattle.pg_rules.specs.declared.entry.ElementEntry.{ElementEntry}
+use Rattle.pg_ast.specs.Trees.{LabelTree}
+use Rattle.pg_rules.specs.Catalog.GraphLookUps.{admitted, bit, has_number}
+use Rattle.pg_catalog.specs.GraphLookUps.{is_admitted, with, with_if}
 
 -- whether a table is in a set or in a list
 abbrev pub with_rest : ℕ → List ℕ → ℕ → ℕ

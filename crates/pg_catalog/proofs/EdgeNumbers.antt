@@ -4,14 +4,14 @@ use Rattle.std.specs.List.{flat_map, find}
 use Rattle.std.specs.Option.{option_or, option_map}
 use Rattle.std.specs.Str.{bytes_eq}
 use borrow.Author.Tests.{lt-ltb}
-use Rattle.pg_ast.specs.declared.entry.PropertyEntry.{PropertyEntry}
-use Rattle.pg_ast.specs.declared.entry.LabelEntry.{LabelEntry}
-use Rattle.pg_ast.specs.declared.entry.EdgeEntry.{EdgeEntry}
-use Rattle.pg_ast.specs.declared.entry.GraphEntry.{GraphEntry}
-use Rattle.pg_ast.specs.CatalogEntries.{Graphs}
-use Rattle.pg_ast.specs.GraphJudgement.{Row, rows_of, first_column}
-use Rattle.pg_ast.specs.GraphLookUps.{first_edge}
-use Rattle.pg_catalog.specs.LookUpPasses.{counted, edges_before, column_in}
+use Rattle.pg_rules.specs.declared.entry.PropertyEntry.{PropertyEntry}
+use Rattle.pg_rules.specs.declared.entry.LabelEntry.{LabelEntry}
+use Rattle.pg_rules.specs.declared.entry.EdgeEntry.{EdgeEntry}
+use Rattle.pg_rules.specs.declared.entry.GraphEntry.{GraphEntry}
+use Rattle.pg_rules.specs.Catalog.{Graphs}
+use Rattle.pg_rules.specs.Definitions.Graphs.{Row, rows_of, first_column}
+use Rattle.pg_rules.specs.Catalog.GraphLookUps.{first_edge}
+use Rattle.pg_catalog.specs.GraphLookUps.{counted, edges_before, column_in}
 
 none_before : (gs : Graphs) → edges_before 0 gs ≡ 0
 none_before [] = refl

@@ -5,16 +5,16 @@ use Rattle.std.specs.List.{list_any, flat_map, find}
 use Rattle.std.specs.Option.{option_map}
 use Rattle.std.specs.Str.{bytes_eq}
 use Rattle.std.proofs.lemmas.List.Folds.{list_any-append, flat_map-map}
-use Rattle.pg_ast.specs.declared.entry.PropertyEntry.{PropertyEntry}
-use Rattle.pg_ast.specs.declared.entry.LabelEntry.{LabelEntry}
-use Rattle.pg_ast.specs.declared.entry.EdgeEntry.{EdgeEntry}
-use Rattle.pg_ast.specs.declared.entry.ElementEntry.{ElementEntry}
-use Rattle.pg_ast.specs.declared.entry.GraphEntry.{GraphEntry}
-use Rattle.pg_ast.specs.TableJudgement.{member}
-use Rattle.pg_ast.specs.GraphJudgement.{Row, rows, rows_of}
-use Rattle.pg_ast.specs.GraphLookUps.{elements_in, property_in}
-use Rattle.pg_catalog.specs.Passes.{add, add_all}
-use Rattle.pg_catalog.specs.GraphProperties.{AreNamesOf, listed, under_label, of_element, of_edge}
+use Rattle.pg_rules.specs.declared.entry.PropertyEntry.{PropertyEntry}
+use Rattle.pg_rules.specs.declared.entry.LabelEntry.{LabelEntry}
+use Rattle.pg_rules.specs.declared.entry.EdgeEntry.{EdgeEntry}
+use Rattle.pg_rules.specs.declared.entry.ElementEntry.{ElementEntry}
+use Rattle.pg_rules.specs.declared.entry.GraphEntry.{GraphEntry}
+use Rattle.pg_rules.specs.Definitions.Tables.{member}
+use Rattle.pg_rules.specs.Definitions.Graphs.{Row, rows, rows_of}
+use Rattle.pg_rules.specs.Catalog.GraphLookUps.{elements_in, property_in}
+use Rattle.pg_catalog.specs.NameSets.{add, add_all}
+use Rattle.pg_catalog.specs.PropertyNames.{AreNamesOf, listed, under_label, of_element, of_edge}
 use Rattle.pg_catalog.proofs.NameSets.{member_all}
 use Rattle.pg_catalog.proofs.Loops.{drop_at}
 

@@ -1,31 +1,30 @@
 -- A table that is defined stands behind the others.
 use Rattle.std.proofs.Common.{◌≡◌, ℕ, refl, ap, sym, ◌∙◌, arith, Bool, true, false, List, [], ◌∷◌, ◌++◌, ◌≤◌, ◌<◌, length, position, is_some, Option, Some, None, cond, map, nat_lt, suc, length-append, slice_get, subst, inl, inr}
-use Rattle.std.proofs.lemmas.Option.{slice_get_cases}
+use Rattle.std.proofs.lemmas.Option.{none-some, slice_get_cases}
 use Rattle.std.proofs.lemmas.List.{length-map}
-use Rattle.std.proofs.lemmas.List.Elements.{All-push}
+use Rattle.std.proofs.lemmas.List.Elements.{All-push, All-map}
 use Rattle.std.specs.Str.{bytes_eq}
 use Rattle.std.specs.Map.{keys_of}
-use Rattle.std.specs.Option.{option_map, option_to_list}
-use Rattle.std.specs.List.{flat_map}
+use Rattle.std.specs.Option.{option_map, option_to_list, unwrap_or}
+use Rattle.std.specs.List.{flat_map, position_or_len}
 use Rattle.pg_ast.specs.declared.expr.Name.{Name}
-use Rattle.pg_ast.specs.FaultPlaces.{least, place_if, sooner, fault_at}
+use Rattle.pg_rules.specs.Places.{least, place_if, sooner, fault_at}
 use Rattle.indexmap.specs.IndexMap.{insert_entry}
 use Rattle.pg_ast.specs.declared.define.TableDef.{TableDef}
-use Rattle.pg_ast.specs.declared.fault.DefineFault.TheVariants as faults
-use Rattle.pg_ast.specs.declared.entry.TableEntry.{TableEntry}
-use Rattle.pg_ast.specs.declared.entry.GraphEntry.{GraphEntry}
-use Rattle.std.proofs.lemmas.List.Elements.{All-map}
-use Rattle.std.specs.List.{position_or_len}
-use Rattle.std.specs.Option.{unwrap_or}
+use Rattle.pg_ast.specs.declared.define.Define.TheVariants as definitions
+use Rattle.pg_rules.specs.Catalog.SoundDefinitions.{IsCatalog, DefinitionsKeepSound}
+use Rattle.pg_rules.specs.declared.fault.DefineFault.TheVariants as faults
+use Rattle.pg_rules.specs.declared.entry.TableEntry.{TableEntry}
+use Rattle.pg_rules.specs.declared.entry.GraphEntry.{GraphEntry}
 use borrow.Author.Tests.{ltb-true}
-use Rattle.pg_ast.specs.declared.entry.EdgeEntry.{EdgeEntry}
+use Rattle.pg_rules.specs.declared.entry.EdgeEntry.{EdgeEntry}
 use Rattle.pg_ast.specs.declared.define.GraphDef.{GraphDef}
 use Rattle.pg_ast.specs.declared.define.VertexDef.{VertexDef}
 use Rattle.pg_ast.specs.declared.define.EdgeDef.{EdgeDef}
-use Rattle.pg_ast.specs.GraphEntries.{number_of, graph_of, vertex_of, edge_of, with_graph, elements_of}
-use Rattle.pg_ast.specs.GraphJudgement as judge
-use Rattle.pg_ast.specs.CatalogEntries.{Tables, Graphs, Defined, IsSmall, IsFew, AreSmall, HasBit, IsSmallGraph}
-use Rattle.pg_ast.specs.TableJudgement.{table_fault, is_defined, is_full, name_taken, no_column, key_mismatch, limit, names, beyond, with_table, entry_of, column_of, key_of, too_long_column}
+use Rattle.pg_rules.specs.Definitions.Entries.{number_of, graph_of, vertex_of, edge_of, with_graph, elements_of}
+use Rattle.pg_rules.specs.Definitions.Graphs as judge
+use Rattle.pg_rules.specs.Catalog.{Tables, Graphs, Defined, IsSmall, IsFew, AreSmall, HasBit, IsSmallGraph}
+use Rattle.pg_rules.specs.Definitions.Tables.{table_fault, is_defined, is_full, name_taken, no_column, key_mismatch, limit, names, beyond, with_table, entry_of, column_of, key_of, too_long_column}
 
 some_mapped : {A B : Type 0} (f : A → B) (o : Option A) → is_some (option_map f o) ≡ is_some o
 some_mapped f None = refl
@@ -64,11 +63,8 @@ no_limit d t h =
 sizes : (d : Defined) (t : TableDef) → table_fault d t ≡ None → (is_full d ≡ false) × (least (beyond 32 (names t.columns) ++ (flat_map (beyond 4) t.keys ++ flat_map too_long_column t.columns)) ≡ None)
 sizes d t h = no_place (is_full d) t.at (beyond 32 (names t.columns) ++ (flat_map (beyond 4) t.keys ++ flat_map too_long_column t.columns)) (no_limit d t h)
 
-none_some : {X : Type 0} (x : X) → None ≡ Some x → ⊥
-none_some x h = cc
-
 short : {X : Type 0} (xs : List X) (k : ℕ) → slice_get xs k ≡ None → length xs ≤ k
-short xs k h = elim (slice_get_cases xs k).1 [ inl w ↦ absurd (none_some w.0 (sym h ∙ w.2)) | inr r ↦ r.0 ]
+short xs k h = elim (slice_get_cases xs k).1 [ inl w ↦ absurd (none-some w.0 (sym h ∙ w.2)) | inr r ↦ r.0 ]
 
 pub few : (d : Defined) (t : TableDef) → table_fault d t ≡ None → length t.columns ≤ 32
 few d t h =
@@ -85,7 +81,7 @@ small d t s h =
     let l = length-map t.columns (column_of (key_of t.keys)) in
     ((grind (arith, length-append), All-push (λ (e : List ℕ × TableEntry). IsFew e.1.columns) d.0 (t.name.text, entry_of t) s.0.1 (grind arith)), s.1)
 
--- ---- a graph
+-- A GRAPH
 
 at_most : (k n : ℕ) (b : Bool) → nat_lt k n ≡ b → n ≤ 64 → unwrap_or (cond b (Some k) None) 0 < 64
 at_most k n true h l = let s = ltb-true k n h in omega arith
@@ -137,6 +133,16 @@ graph_small d g s h =
     let a = length-append d.1 ((g.name.text, graph_of d.0 g) ∷ []) in
     (s.0, (omega arith, All-push (λ (e : List ℕ × GraphEntry). IsSmallGraph e.1) d.1 (g.name.text, graph_of d.0 g) s.1.1 (graph_is_small d.0 g s.0 (few_edges g z.1))))
 
-pub graph_added : (d : Defined) (g : GraphDef) (graphs : Graphs) (name : List ℕ) (entry : GraphEntry) → graphs ≡ d.1 ++ (name, entry) ∷ [] → name ≡ g.name.text → entry ≡ graph_of d.0 g → IsSmall d → judge.graph_fault d g ≡ None → IsSmall (d.0, graphs)
-graph_added d g graphs name entry e n k s h =
-    subst (λ gs. IsSmall (d.0, gs)) (sym (e ∙ ap (λ m. d.1 ++ (m, entry) ∷ []) n ∙ ap (λ x. d.1 ++ (g.name.text, x) ∷ []) k)) (graph_small d g s h)
+-- WHAT IS ADDED
+
+pub table_added : (d : Defined) (t : TableDef) (tables : Tables) (name : List ℕ) (entry : TableEntry) → DefinitionsKeepSound → tables ≡ d.0 ++ (name, entry) ∷ [] → name ≡ t.name.text → entry ≡ entry_of t
+    → IsCatalog d → table_fault d t ≡ None → IsCatalog (tables, d.1)
+table_added d t tables name entry law e n k c h =
+    subst (λ ts. IsCatalog (ts, d.1)) (sym (e ∙ ap (λ m. d.0 ++ (m, entry) ∷ []) n ∙ ap (λ x. d.0 ++ (t.name.text, x) ∷ []) k))
+    (record { small = small d t c.small h; sound = law d (definitions.Table t) c.sound h })
+
+pub graph_added : (d : Defined) (g : GraphDef) (graphs : Graphs) (name : List ℕ) (entry : GraphEntry) → DefinitionsKeepSound → graphs ≡ d.1 ++ (name, entry) ∷ [] → name ≡ g.name.text → entry ≡ graph_of d.0 g
+    → IsCatalog d → judge.graph_fault d g ≡ None → IsCatalog (d.0, graphs)
+graph_added d g graphs name entry law e n k c h =
+    subst (λ gs. IsCatalog (d.0, gs)) (sym (e ∙ ap (λ m. d.1 ++ (m, entry) ∷ []) n ∙ ap (λ x. d.1 ++ (g.name.text, x) ∷ []) k))
+    (record { small = graph_small d g c.small h; sound = law d (definitions.Graph g) c.sound h })

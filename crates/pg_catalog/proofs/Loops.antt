@@ -2,8 +2,8 @@
 use Rattle.std.proofs.Common.{Bool, true, false, ◌&&◌, ◌≡◌, ℕ, ◌+◌, ◌<◌, refl, ap, sym, ◌∙◌, List, [], ◌∷◌, ◌++◌, Option, length, get_or, drop, drop-cons, add-one, suc}
 use Rattle.std.specs.List.{flat_map}
 use Rattle.pg_ast.specs.declared.expr.Name.{Name}
-use Rattle.pg_ast.specs.GraphJudgement.{pairwise}
-use Rattle.pg_ast.specs.FaultPlaces.{least, sooner, least_found, least_append}
+use Rattle.pg_rules.specs.Definitions.Graphs.{pairwise}
+use Rattle.pg_rules.specs.Places.{least, sooner, least_found, least_append}
 
 pub drop_at : {X : Type 0} (xs : List X) (i : ℕ) (x : X) → i < length xs → x ≡ get_or xs i x → drop i xs ≡ x ∷ drop (i + 1) xs
 drop_at xs i x inside is = drop-cons xs i x inside ∙ ap (λ y. y ∷ drop (suc i) xs) (sym is) ∙ ap (λ k. x ∷ drop k xs) (sym (add-one i))

@@ -7,15 +7,15 @@ use Rattle.std.specs.Str.{bytes_eq}
 use Rattle.std.specs.Cmp.Lexicographic.{bytes_decides}
 use Rattle.std.proofs.lemmas.List.Folds.{list_any-append}
 use Rattle.pg_ast.specs.declared.expr.Name.{Name}
-use Rattle.pg_ast.specs.FaultPlaces.{least, sooner, place_if, least_append}
-use Rattle.pg_ast.specs.TableJudgement.{again, repeats, member, unknown}
+use Rattle.pg_rules.specs.Places.{least, sooner, place_if, least_append}
+use Rattle.pg_rules.specs.Definitions.Tables.{again, repeats, member, unknown}
 use Rattle.std.specs.Map.{lookup}
 use Rattle.indexmap.specs.IndexMap.{insert_entry}
 use Rattle.pg_ast.specs.declared.define.EdgeDef.{EdgeDef}
-use Rattle.pg_ast.specs.CatalogEntries.{Tables}
-use Rattle.pg_ast.specs.CatalogLookUps.{table_in}
-use Rattle.pg_ast.specs.GraphJudgement.{edge_without_table, no_such, no_vertex}
-use Rattle.pg_catalog.specs.Passes.{add, add_by, add_all, member_by, repeats_after, texts_of}
+use Rattle.pg_rules.specs.Catalog.{Tables}
+use Rattle.pg_rules.specs.Catalog.LookUps.{table_in}
+use Rattle.pg_rules.specs.Definitions.Graphs.{edge_without_table, no_such, no_vertex}
+use Rattle.pg_catalog.specs.NameSets.{add, add_by, add_all, member_by, repeats_after, texts_by}
 
 pub or_false : (a : Bool) → (a || false) ≡ a
 or_false true = refl
@@ -171,14 +171,15 @@ edges_same tables ts (e ∷ es) =
     ap (λ ps. ps ++ flat_map (edge_without_table tables (add_all [] ts)) es) (edge_same tables ts e)
     ∙ ap (λ ps. edge_without_table tables ts e ++ ps) (edges_same tables ts es)
 
-after_first : (seen : List (List ℕ)) (xs ys : List Name) → least (repeats_after seen (xs ++ ys)) ≡ sooner (least (repeats_after seen xs)) (least (repeats_after (add_all seen (texts_of xs)) ys))
-after_first seen [] ys = refl
-after_first seen (x ∷ xs) ys =
-    let p = place_if (member x.text seen) x.at in
-    least_append p (repeats_after (add seen x.text) (xs ++ ys))
-    ∙ ap (sooner (least p)) (after_first (add seen x.text) xs ys)
-    ∙ sym (assoc (least p) (least (repeats_after (add seen x.text) xs)) (least (repeats_after (add_all (add seen x.text) (texts_of xs)) ys)))
-    ∙ sym (ap (λ o. sooner o (least (repeats_after (add_all (add seen x.text) (texts_of xs)) ys))) (least_append p (repeats_after (add seen x.text) xs)))
+after_first : {X : Type 0} (named : X → Name) (seen : List (List ℕ)) (xs : List X) (ys : List Name) → least (repeats_after seen (map named xs ++ ys)) ≡ sooner (least (repeats_after seen (map named xs))) (least (repeats_after (add_all seen (texts_by named xs)) ys))
+after_first named seen [] ys = refl
+after_first named seen (x ∷ xs) ys =
+    let text = (named x).text in
+    let p = place_if (member text seen) (named x).at in
+    least_append p (repeats_after (add seen text) (map named xs ++ ys))
+    ∙ ap (sooner (least p)) (after_first named (add seen text) xs ys)
+    ∙ sym (assoc (least p) (least (repeats_after (add seen text) (map named xs))) (least (repeats_after (add_all (add seen text) (texts_by named xs)) ys)))
+    ∙ sym (ap (λ o. sooner o (least (repeats_after (add_all (add seen text) (texts_by named xs)) ys))) (least_append p (repeats_after (add seen text) (map named xs))))
 
-pub two_lists : (xs ys : List Name) → sooner (least (repeats_after [] xs)) (least (repeats_after (add_all [] (texts_of xs)) ys)) ≡ least (repeats (xs ++ ys))
-two_lists xs ys = sym (after_first [] xs ys) ∙ seen_all (xs ++ ys)
+pub two_lists : {X : Type 0} (named : X → Name) (xs : List X) (ys : List Name) → sooner (least (repeats_after [] (map named xs))) (least (repeats_after (add_all [] (texts_by named xs)) ys)) ≡ least (repeats (map named xs ++ ys))
+two_lists named xs ys = sym (after_first named [] xs ys) ∙ seen_all (map named xs ++ ys)

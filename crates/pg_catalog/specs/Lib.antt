@@ -1,4 +1,4 @@
-pub mod Passes
+pub mod NameSets
 pub mod PropertyRows
-pub mod LookUpPasses
-pub mod GraphProperties
+pub mod GraphLookUps
+pub mod PropertyNames

@@ -5,11 +5,12 @@ use Rattle.std.specs.Map.{lookup}
 use Rattle.std.specs.Str.{bytes_eq}
 use Rattle.pg_value.specs.declared.value.Kind.{Kind}
 use Rattle.pg_value.specs.declared.value.Kind.TheVariants as kinds
-use Rattle.pg_ast.specs.declared.entry.PropertyEntry.{PropertyEntry}
-use Rattle.pg_ast.specs.GraphJudgement.{Row, same_kind, is_place}
-use Rattle.pg_ast.specs.TableJudgement.{member}
-use Rattle.pg_catalog.specs.declared.rows.Row.{Row as Found}
-use Rattle.pg_catalog.specs.Passes.{add, add_by, member_by}
+use Rattle.pg_rules.specs.declared.entry.PropertyEntry.{PropertyEntry}
+use Rattle.pg_rules.specs.Definitions.Graphs.{Row, is_place}
+use Rattle.pg_value.specs.Kinds.{same_kind}
+use Rattle.pg_rules.specs.Definitions.Tables.{member}
+use Rattle.pg_catalog.specs.declared.graph.property_rows.Row.{Row as Found}
+use Rattle.pg_catalog.specs.NameSets.{add, add_by, member_by}
 
 -- a row as the code holds it
 abbrev pub row_view : Found → Row
@@ -21,7 +22,7 @@ under label p = record { label = label; property = p }
 abbrev pub of_kind : Kind → Row → Bool
 of_kind kind r = same_kind kind r.property.kind
 
--- ---- names of one kind
+-- NAMES OF ONE KIND
 
 abbrev pub names_after : Kind → List (List ℕ) → List Row → List (List ℕ)
 names_after kind seen [] = seen
@@ -37,7 +38,7 @@ clash_with kind names rs = list_any (is_clash kind names) rs
 abbrev pub clash_by_kind : List Row → List Row → Bool
 clash_by_kind qs rs = clash_with kinds.Int (names_after kinds.Int [] qs) rs || (clash_with kinds.Text (names_after kinds.Text [] qs) rs || clash_with kinds.Bool (names_after kinds.Bool [] qs) rs)
 
--- ---- names of one kind under their labels
+-- NAMES OF ONE KIND UNDER THEIR LABELS
 
 abbrev pub pair_eq : List ℕ × List ℕ → List ℕ × List ℕ → Bool
 pair_eq a b = bytes_eq a.0 b.0 && bytes_eq a.1 b.1
@@ -56,7 +57,7 @@ lacks_of kind labels pairs rs = list_any (is_lacking kind labels pairs) rs
 abbrev pub lacks_by_kind : List (List ℕ) → List Row → List Row → Bool
 lacks_by_kind labels qs rs = lacks_of kinds.Int labels (pairs_after kinds.Int [] qs) rs || (lacks_of kinds.Text labels (pairs_after kinds.Text [] qs) rs || lacks_of kinds.Bool labels (pairs_after kinds.Bool [] qs) rs)
 
--- ---- the first column of each name
+-- THE FIRST COLUMN OF EACH NAME
 
 abbrev pub add_last : List (List ℕ × ℕ) → List ℕ → ℕ → List (List ℕ × ℕ)
 add_last seen name column = seen ++ (name, column) ∷ []

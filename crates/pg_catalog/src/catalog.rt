@@ -1,38 +1,43 @@
-//! The catalog: its look-ups, and the definition of a table.
-ghost use Rattle.std.specs.Prelude.{◌≡◌, [], IfOk, IfErr, OnOk, OnErr, is_some, None, false, ◌++◌, ◌∷◌, position, slice_get, length};
+//! The catalog: the definition of tables and graphs, and the look-ups.
+ghost use Rattle.std.specs.Prelude.{◌≡◌, [], IfOk, IfErr, OnOk, OnErr, is_some, None, false, ◌++◌, ◌∷◌, position, slice_get, length, ◌<◌};
 ghost use Rattle.std.specs.Map.{keys_of};
 ghost use Rattle.std.specs.Option.{option_copied, option_map};
 ghost use Rattle.std.specs.Str.{bytes_eq};
-ghost use Rattle.pg_ast.specs.TableJudgement as define;
-ghost use Rattle.pg_ast.specs.EntryShapes as shape;
-ghost use Rattle.pg_ast.specs.CatalogLookUps as spec;
-ghost use Rattle.pg_ast.specs.GraphEntries as entry;
-ghost use Rattle.pg_ast.specs.GraphLookUps as look;
-ghost use Rattle.pg_ast.specs.Labels.{label_tree};
-ghost use Rattle.pg_ast.specs.GraphJudgement as graph_judge;
-ghost use Rattle.pg_ast.specs.Judgement as judge;
-ghost use Rattle.pg_catalog.specs.GraphProperties as property;
+ghost use Rattle.pg_rules.specs.Definitions.Tables as define;
+ghost use Rattle.pg_rules.specs.Catalog.Shapes as shape;
+ghost use Rattle.pg_rules.specs.Catalog.LookUps as spec;
+ghost use Rattle.pg_rules.specs.Catalog.SoundDefinitions.{IsCatalog};
+ghost use Rattle.pg_rules.specs.Definitions.Entries as entry;
+ghost use Rattle.pg_rules.specs.Catalog.GraphLookUps as look;
+ghost use Rattle.pg_ast.specs.Trees.{label_tree};
+ghost use Rattle.pg_rules.specs.Definitions.Graphs as graph_judge;
+ghost use Rattle.pg_rules.specs.Definitions as judge;
+ghost use Rattle.pg_meaning.specs.Sound.Graphs as sound;
+ghost use Rattle.pg_catalog.specs.PropertyNames as property;
 
-use crate::agree::label_mismatch;
-use crate::build::{column_place, entry_of};
-use crate::elements::{elements_of, graph_of};
-use crate::graph_look::{graph_shape, property_in, tables_of};
-use crate::keys::graph_key_mismatch;
-use crate::limits::graph_limit;
-use crate::missing;
-use crate::names::{PropertyNames, graph_names, no_names};
-use crate::places::{key_mismatch, limit, name_taken, no_column};
+use crate::graph::entry::{elements_of, graph_of};
+use crate::graph::keys::graph_key_mismatch;
+use crate::graph::label_agreement::label_mismatch;
+use crate::graph::limits::graph_limit;
+use crate::graph::look_up::{graph_shape, property_in, tables_of};
+use crate::graph::property_kinds::type_mismatch;
+use crate::graph::property_names::property_names;
+use crate::graph::repeated_names::graph_name_taken;
+use crate::graph::unknown_names;
+use crate::name_set::NameSet;
 use crate::shapes::{edge_shapes, table_shapes};
-use crate::taken::graph_name_taken;
-use crate::types::type_mismatch;
+use crate::table::entry::{column_place, entry_of};
+use crate::table::faults::{key_mismatch, limit, name_taken, no_column};
 use indexmap::IndexMap;
-use pg_ast::{Define, DefineFault, GraphDef, GraphEntry, LabelExpr, TableDef, TableEntry};
+use pg_ast::{Define, GraphDef, LabelExpr, TableDef};
+use pg_rules::{DefineFault, GraphEntry, TableEntry, sound_definitions, sound_shapes};
 use pg_value::{GraphNo, GraphShape, Shapes, TableNo, TableSet, Text};
 use std::alloc::{AllocError, Global};
 use std::marker::Model;
 
 /// The tables and property graphs that are defined, each in order of definition: at most 64 tables of at most 32 columns,
-/// and at most 16 graphs of at most 32 edge tables each. `define` takes no name that a table or graph has.
+/// and at most 16 graphs of at most 32 edge tables each. `define` takes no name that a table or graph has. A catalog is sound:
+/// what its tables and graphs name stands, and a property has one kind in a graph.
 #[derive(Drop)]
 pub struct Catalog {
     tables: IndexMap<Text, TableEntry>,
@@ -40,13 +45,14 @@ pub struct Catalog {
 }
 
 impl Model for Catalog {
-    ghost use Rattle.pg_ast.specs.CatalogEntries.{Defined, of_entries, IsSmall};
+    ghost use Rattle.pg_rules.specs.Catalog.{Defined, of_entries};
+    ghost use Rattle.pg_rules.specs.Catalog.SoundDefinitions.{IsCatalog};
 
     ghost Value = { Defined };
 
     ghost view = { λ c. of_entries c.tables.entries c.graphs.entries };
 
-    ghost invariant = { λ c. IsSmall (of_entries c.tables.entries c.graphs.entries) };
+    ghost invariant = { λ c. IsCatalog (of_entries c.tables.entries c.graphs.entries) };
 }
 
 impl Catalog {
@@ -58,6 +64,14 @@ impl Catalog {
             tables: IndexMap::new(alloc),
             graphs: IndexMap::new(alloc),
         }
+    }
+
+    /// What a holder of a catalog may rely on, whichever definitions it has taken: it is small enough for its numbers, and
+    /// sound. It does nothing.
+    pub fn soundness(&self)
+        ensures { IsCatalog self.now }
+    {
+        let _ = &self.tables;
     }
 
     /// The number of a table; None exactly where no table has the name.
@@ -110,11 +124,13 @@ impl Catalog {
         }
     }
 
-    /// The shapes of all tables, by their numbers, and of the edge tables of all graphs, in order of definition. Only want of
-    /// memory refuses it.
+    /// The shapes of all tables, by their numbers, and of the edge tables of all graphs, in order of definition: columns and
+    /// tables that they name stand, keys are NOT NULL, and ends have the kinds of keys. Only want of memory refuses it.
     pub fn shapes(&self, alloc: Global) -> Result<Shapes, AllocError>
-        ensures { IfOk result (λ shapes. shapes ≡ shape.shapes self.now) }
+        ensures shapes { IfOk result (λ shapes. shapes ≡ shape.shapes self.now) }
+        ensures sound { IfOk result sound.AreSoundShapes }
     {
+        sound_shapes();
         let tables = table_shapes(alloc, &self.tables)?;
         let edges = edge_shapes(alloc, &self.graphs)?;
         Ok(Shapes { tables, edges })
@@ -140,16 +156,12 @@ impl Catalog {
 
     /// The names of all properties of a graph, collected in one pass over its element tables; none where there is no such
     /// graph. Only want of memory refuses it.
-    pub fn property_names(
-        &self,
-        alloc: Global,
-        graph: GraphNo,
-    ) -> Result<PropertyNames<'_>, AllocError>
+    pub fn property_names(&self, alloc: Global, graph: GraphNo) -> Result<NameSet<'_>, AllocError>
         ensures { IfOk result (property.AreNamesOf (look.graph_numbered self.now.1 graph)) }
     {
         match self.graphs.get_index(graph.0 as usize) {
-            Some((_, entry)) => graph_names(alloc, entry),
-            None => Ok(no_names(alloc)),
+            Some((_, entry)) => property_names(alloc, entry),
+            None => Ok(NameSet::new(alloc)),
         }
     }
 
@@ -166,10 +178,13 @@ impl Catalog {
     }
 
     /// The vertex tables and the edge tables of a graph, both in order of definition; edge tables are numbered over all
-    /// graphs. Both lists are empty where there is no such graph. Only want of memory refuses it.
+    /// graphs. Both lists are empty where there is no such graph; the tables of a graph stand, and differ. Only want of memory
+    /// refuses it.
     pub fn graph_shape(&self, alloc: Global, graph: GraphNo) -> Result<GraphShape, AllocError>
-        ensures { IfOk result (λ shape. shape ≡ look.graph_shape self.now graph) }
+        ensures shape { IfOk result (λ shape. shape ≡ look.graph_shape self.now graph) }
+        ensures sound { IfOk result (λ found. graph.0 < length self.now.1 → sound.IsSoundGraph (shape.shapes self.now) found) }
     {
+        sound_shapes();
         graph_shape(alloc, &self.graphs, graph.0)
     }
 
@@ -180,6 +195,7 @@ impl Catalog {
         self.tables.get_index_of(name).is_some() || self.graphs.get_index_of(name).is_some()
     }
 
+    /// Whether there is no room for another table.
     fn is_full(&self) -> bool
         ensures { result ≡ define.is_full self.now }
     {
@@ -220,6 +236,7 @@ impl Catalog {
         ensures fault { IfErr result (define.IsFault (define.table_fault self.old table.now)) }
         ensures unchanged { OnErr result (self.new ≡ self.old) }
     {
+        sound_definitions();
         let Ok(found) = self.table_fault(alloc, table) else {
             return Err(DefineFault::Memory);
         };
@@ -238,6 +255,7 @@ impl Catalog {
         }
     }
 
+    /// Whether there is no room for another graph.
     fn is_full_of_graphs(&self) -> bool
         ensures { result ≡ graph_judge.is_full self.now }
     {
@@ -276,10 +294,10 @@ impl Catalog {
         if let Some(at) = graph_name_taken(alloc, self.is_defined(&graph.name.text), graph)? {
             return Ok(Some(DefineFault::NameTaken { at }));
         }
-        if let Some(at) = missing::no_table(alloc, &self.tables, graph)? {
+        if let Some(at) = unknown_names::no_table(alloc, &self.tables, graph)? {
             return Ok(Some(DefineFault::NoTable { at }));
         }
-        if let Some(at) = missing::no_column(&self.tables, graph) {
+        if let Some(at) = unknown_names::no_column(&self.tables, graph) {
             return Ok(Some(DefineFault::NoColumn { at }));
         }
         if let Some(at) = graph_key_mismatch(&self.tables, graph) {
@@ -303,6 +321,7 @@ impl Catalog {
         ensures fault { IfErr result (define.IsFault (graph_judge.graph_fault self.old graph.now)) }
         ensures unchanged { OnErr result (self.new ≡ self.old) }
     {
+        sound_definitions();
         let Ok(found) = self.graph_fault(alloc, graph) else {
             return Err(DefineFault::Memory);
         };

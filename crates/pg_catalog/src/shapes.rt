@@ -1,12 +1,13 @@
 //! The shapes of tables and of edge tables.
 ghost use Rattle.std.specs.Prelude.{◌≡◌, ◌++◌, IfOk, OnOk, map};
-ghost use Rattle.pg_ast.specs.EntryShapes as spec;
+ghost use Rattle.pg_rules.specs.Catalog.Shapes as spec;
 
 use indexmap::IndexMap;
-use pg_ast::{ColumnEntry, EdgeEntry, GraphEntry, TableEntry};
+use pg_rules::{ColumnEntry, EdgeEntry, GraphEntry, TableEntry};
 use pg_value::{ColumnShape, EdgeShape, List, TableShape, Text};
 use std::alloc::{AllocError, Global};
 
+/// A copy of some places.
 fn copy_places(alloc: Global, places: &[u32]) -> Result<List<u32>, AllocError>
     ensures { IfOk result (λ copy. copy ≡ places.now) }
 {
@@ -17,6 +18,7 @@ fn copy_places(alloc: Global, places: &[u32]) -> Result<List<u32>, AllocError>
     Ok(out)
 }
 
+/// The shapes of some columns.
 fn column_shapes(alloc: Global, columns: &[ColumnEntry]) -> Result<List<ColumnShape>, AllocError>
     ensures { IfOk result (λ shapes. shapes ≡ map (λ c. c.shape) columns.now) }
 {
@@ -27,6 +29,7 @@ fn column_shapes(alloc: Global, columns: &[ColumnEntry]) -> Result<List<ColumnSh
     Ok(out)
 }
 
+/// The shape of a table.
 fn table_shape(alloc: Global, table: &TableEntry) -> Result<TableShape, AllocError>
     ensures { IfOk result (λ shape. shape ≡ spec.table_shape table.now) }
 {
@@ -49,6 +52,7 @@ pub fn table_shapes(
     Ok(out)
 }
 
+/// The shape of an edge table.
 fn edge_shape(alloc: Global, edge: &EdgeEntry) -> Result<EdgeShape, AllocError>
     ensures { IfOk result (λ shape. shape ≡ spec.edge_shape edge.now) }
 {
@@ -63,6 +67,7 @@ fn edge_shape(alloc: Global, edge: &EdgeEntry) -> Result<EdgeShape, AllocError>
     })
 }
 
+/// Appends the shapes of a graph's edge tables.
 fn push_edges(
     alloc: Global,
     edges: &[EdgeEntry],

@@ -7,16 +7,17 @@ use Rattle.pg_value.specs.declared.shape.GraphNo.{GraphNo}
 use Rattle.pg_ast.specs.declared.expr.Name.{Name}
 use Rattle.pg_ast.specs.declared.pattern.Query.{Query}
 use Rattle.pg_ast.specs.declared.pattern.ColumnItem.{ColumnItem}
-use Rattle.pg_ast.specs.declared.entry.GraphEntry.{GraphEntry}
-use Rattle.pg_ast.specs.CatalogLookUps.{graph_at, graph_number}
-use Rattle.pg_ast.specs.CatalogEntries.{Defined}
-use Rattle.pg_ast.specs.GraphLookUps.{graph_numbered}
-use Rattle.pg_ast.specs.FaultPlaces.{least, place_if, fault_at, first_fault}
-use Rattle.pg_catalog.specs.GraphProperties.{AreNamesOf}
+use Rattle.pg_rules.specs.declared.entry.GraphEntry.{GraphEntry}
+use Rattle.pg_rules.specs.Catalog.LookUps.{graph_at, graph_number}
+use Rattle.pg_rules.specs.Catalog.{Defined}
+use Rattle.pg_rules.specs.Catalog.GraphLookUps.{graph_numbered}
+use Rattle.pg_rules.specs.Places.{least, place_if, fault_at, first_fault}
+use Rattle.pg_catalog.specs.PropertyNames.{AreNamesOf}
 use Rattle.pg_check.specs.HopForm.{unnamed, fault_among, later_fault}
-use Rattle.pg_check.specs.declared.fault.CheckFault.{CheckFault}
-use Rattle.pg_check.specs.declared.fault.CheckFault.TheVariants as faults
-use Rattle.pg_check.specs.OneHopCheck.{IsFault, bad_variable, check_fault, limit, missing_property, reference, variables}
+use Rattle.pg_rules.specs.declared.fault.CheckFault.{CheckFault}
+use Rattle.pg_rules.specs.declared.fault.CheckFault.TheVariants as faults
+use Rattle.pg_check.specs.OneHopCheck.{IsFault}
+use Rattle.pg_rules.specs.Queries.OneHop.{bad_variable, check_fault, limit, missing_property, reference, variables}
 
 unnamed_same : (g : GraphEntry) (names : List (List ℕ)) (o : Option (Name × Name)) → AreNamesOf g names → unnamed names o ≡ missing_property g o
 unnamed_same g names None h = refl

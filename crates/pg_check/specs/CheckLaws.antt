@@ -12,20 +12,21 @@ use Rattle.pg_value.specs.declared.shape.TableSet.{TableSet}
 use Rattle.pg_ast.specs.declared.expr.Name.{Name}
 use Rattle.pg_ast.specs.declared.pattern.Query.{Query}
 use Rattle.pg_ast.specs.declared.pattern.ColumnItem.{ColumnItem}
-use Rattle.pg_ast.specs.declared.checked.CExpr.TheVariants.{Property}
-use Rattle.pg_ast.specs.declared.checked.CheckedColumn.{CheckedColumn}
-use Rattle.pg_ast.specs.declared.entry.ElementEntry.{ElementEntry}
-use Rattle.pg_ast.specs.declared.entry.EdgeEntry.{EdgeEntry}
-use Rattle.pg_ast.specs.declared.entry.GraphEntry.{GraphEntry}
-use Rattle.pg_ast.specs.CatalogEntries.{Defined, Graphs}
-use Rattle.pg_ast.specs.EntryShapes.{shapes, edge_shape, edge_shapes}
-use Rattle.pg_ast.specs.GraphLookUps.{IsSetOf, admitted, bit, graph_in, graph_numbered, graph_shape, first_edge, has_number, numbers_from}
-use Rattle.pg_ast.specs.Labels.{Every}
-use Rattle.pg_ast.specs.HopQuery.{AdmitsAll, edge_tables, one_hop_query}
-use Rattle.pg_ast.specs.Members.{in_cons, in_nil}
+use Rattle.pg_meaning.specs.declared.checked.CExpr.TheVariants.{Property}
+use Rattle.pg_meaning.specs.declared.checked.CheckedColumn.{CheckedColumn}
+use Rattle.pg_rules.specs.declared.entry.ElementEntry.{ElementEntry}
+use Rattle.pg_rules.specs.declared.entry.EdgeEntry.{EdgeEntry}
+use Rattle.pg_rules.specs.declared.entry.GraphEntry.{GraphEntry}
+use Rattle.pg_rules.specs.Catalog.{Defined, Graphs}
+use Rattle.pg_rules.specs.Catalog.Shapes.{shapes, edge_shape, edge_shapes}
+use Rattle.pg_rules.specs.Catalog.GraphLookUps.{IsSetOf, admitted, bit, graph_in, graph_numbered, graph_shape, first_edge, has_number, numbers_from}
+use Rattle.pg_ast.specs.Trees.{Every}
+use Rattle.pg_meaning.specs.HopQuery.{AdmitsAll, edge_tables, one_hop_query}
+use Rattle.pg_meaning.specs.Members.{in_cons, in_nil}
 use Rattle.pg_check.specs.declared.hop.HopColumn.{HopColumn}
 use Rattle.pg_check.specs.declared.hop.HopQuery.{HopQuery}
-use Rattle.pg_check.specs.OneHopCheck.{IsHopOf, IsCheckedOf, checked_item, graph_of, hop_column, variables}
+use Rattle.pg_check.specs.OneHopCheck.{IsHopOf, IsCheckedOf, Shows, checked_item, hop_column}
+use Rattle.pg_rules.specs.Queries.OneHop.{graph_of, variables}
 
 -- THE CHECKED QUERY
 
@@ -42,10 +43,6 @@ checked_of d q h i = record {
   edges_are = i.edges;
   is = ap (λ g. one_hop_query g h.vertices h.edges (checked_columns d q)) i.graph;
 }
-
--- the checked column is the property that is asked for
-abbrev pub Shows : HopColumn → CheckedColumn → Type 0
-Shows h c = c.expr ≡ Property h.var h.columns
 
 all_show : (d : Defined) (g : GraphNo) (vars : List Name) (cs : List ColumnItem) → AllZip Shows (map (hop_column d g vars) cs) (map (checked_item d g vars) cs)
 all_show d g vars [] = tt

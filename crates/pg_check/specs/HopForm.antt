@@ -4,16 +4,16 @@ use Rattle.std.specs.List.{flat_map}
 use Rattle.std.specs.declared.option.Option.{Option}
 use Rattle.std.specs.declared.option.Option.TheVariants.{Some, None}
 use Rattle.pg_ast.specs.declared.expr.Name.{Name}
-use Rattle.pg_ast.specs.TableJudgement.{member}
-use Rattle.pg_ast.specs.declared.entry.GraphEntry.{GraphEntry}
+use Rattle.pg_rules.specs.Definitions.Tables.{member}
+use Rattle.pg_rules.specs.declared.entry.GraphEntry.{GraphEntry}
 use Rattle.pg_ast.specs.declared.pattern.ColumnItem.{ColumnItem}
 use Rattle.pg_ast.specs.declared.pattern.Query.{Query}
-use Rattle.pg_ast.specs.FaultPlaces.{place_if, first_fault}
+use Rattle.pg_rules.specs.Places.{place_if, first_fault}
 use Rattle.pg_check.specs.declared.form.ThreeVariables.{ThreeVariables}
 use Rattle.pg_check.specs.declared.form.PropertyRef.{PropertyRef}
-use Rattle.pg_check.specs.declared.fault.CheckFault.{CheckFault}
-use Rattle.pg_check.specs.declared.fault.CheckFault.TheVariants as faults
-use Rattle.pg_check.specs.OneHopCheck.{no_property, bad_variable, limit, beyond, reference, unknown_variable}
+use Rattle.pg_rules.specs.declared.fault.CheckFault.{CheckFault}
+use Rattle.pg_rules.specs.declared.fault.CheckFault.TheVariants as faults
+use Rattle.pg_rules.specs.Queries.OneHop.{no_property, bad_variable, limit, beyond, reference, unknown_variable}
 
 -- the three variables, in order of first mention
 abbrev pub three : ThreeVariables → List Name

@@ -1,18 +1,27 @@
 //! The check of a query of one edge: where it is refused, and what it asks of the tables.
 ghost use Rattle.std.specs.Prelude.{◌≡◌, true, false, None, IfOk, IfErr, map};
-ghost use Rattle.pg_ast.specs.GraphLookUps.{IsSetOf, graph_shape, tables_of};
-ghost use Rattle.pg_ast.specs.Labels.{Every};
+ghost use Rattle.pg_rules.specs.Catalog.GraphLookUps.{IsSetOf, graph_shape, tables_of};
+ghost use Rattle.pg_ast.specs.Trees.{Every};
 ghost use Rattle.pg_check.specs.HopForm.{three};
+ghost use Rattle.pg_rules.specs.Queries.OneHop as judge;
 ghost use Rattle.pg_check.specs.OneHopCheck as spec;
 
+use crate::HopQuery;
 use crate::columns::hop_columns;
 use crate::faults::later_fault;
 use crate::form::{ThreeVariables, variables};
-use crate::{CheckFault, HopQuery};
 use pg_ast::{LabelExpr, Query};
 use pg_catalog::Catalog;
-use pg_value::GraphNo;
+use pg_rules::CheckFault;
+use pg_value::{GraphNo, TableSet};
 use std::alloc::{AllocError, Global};
+
+/// The vertex tables or the edge tables of a graph.
+fn all_tables(catalog: &Catalog, graph: GraphNo, edges: bool) -> TableSet
+    ensures { IsSetOf result.0 (tables_of catalog.now graph edges Every) }
+{
+    catalog.tables_of(graph, edges, &LabelExpr::All)
+}
 
 /// The query over a graph of the catalog.
 fn hop_query(
@@ -27,15 +36,12 @@ fn hop_query(
     ensures edges { IfOk result (λ h. IsSetOf h.edges.0 (tables_of catalog.now graph true Every)) }
     ensures columns { IfOk result (λ h. h.columns ≡ map (spec.hop_column catalog.now graph (three vars.entry)) query.now.columns) }
 {
-    let all = LabelExpr::All;
-    let vertices = catalog.tables_of(graph, false, &all);
-    let edges = catalog.tables_of(graph, true, &all);
     let shape = catalog.graph_shape(alloc, graph)?;
     let columns = hop_columns(alloc, catalog, graph, vars, query.columns.as_slice())?;
     Ok(HopQuery {
         graph: shape,
-        vertices,
-        edges,
+        vertices: all_tables(catalog, graph, false),
+        edges: all_tables(catalog, graph, true),
         columns,
     })
 }
@@ -48,10 +54,10 @@ pub fn check_one_hop(
     catalog: &Catalog,
     query: &Query,
 ) -> Result<HopQuery, CheckFault>
-    requires { spec.is_one_hop query.now ≡ true }
-    ensures right { IfOk result (λ _. spec.check_fault catalog.now query.now ≡ None) }
+    requires { judge.is_one_hop query.now ≡ true }
+    ensures right { IfOk result (λ _. judge.check_fault catalog.now query.now ≡ None) }
     ensures checked { IfOk result (spec.IsHopOf catalog.now query.now) }
-    ensures fault { IfErr result (spec.IsFault (spec.check_fault catalog.now query.now)) }
+    ensures fault { IfErr result (spec.IsFault (judge.check_fault catalog.now query.now)) }
 {
     let Some(vars) = variables(query) else {
         unreachable!()

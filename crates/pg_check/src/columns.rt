@@ -44,6 +44,7 @@ fn columns_of(
     Ok(out)
 }
 
+/// A column of the answer, from what it refers to.
 fn column_from(
     alloc: Global,
     catalog: &Catalog,
@@ -71,6 +72,7 @@ fn column_from(
     }
 }
 
+/// A column of the answer.
 fn hop_column(
     alloc: Global,
     catalog: &Catalog,

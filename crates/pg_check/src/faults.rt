@@ -1,21 +1,21 @@
 //! The places where a query is refused, kind by kind.
 ghost use Rattle.std.specs.Prelude.{◌≡◌, IfOk};
 ghost use Rattle.std.specs.List.{flat_map};
-ghost use Rattle.pg_ast.specs.FaultPlaces.{least};
-ghost use Rattle.pg_ast.specs.GraphLookUps.{graph_numbered};
+ghost use Rattle.pg_rules.specs.Places.{least};
+ghost use Rattle.pg_rules.specs.Catalog.GraphLookUps.{graph_numbered};
 ghost use Rattle.pg_check.specs.HopForm as form;
 ghost use Rattle.pg_check.specs.HopForm.{pair, three, unnamed};
-ghost use Rattle.pg_check.specs.OneHopCheck as spec;
+ghost use Rattle.pg_rules.specs.Queries.OneHop as spec;
 
-use crate::CheckFault;
 use crate::form::{PropertyRef, ThreeVariables, reference};
-use crate::least::{place_if, sooner};
 use pg_ast::{ColumnItem, Query};
-use pg_catalog::{Catalog, PropertyNames};
+use pg_catalog::{Catalog, NameSet};
+use pg_rules::{CheckFault, place_if, sooner};
 use pg_value::{GraphNo, Text};
 use std::alloc::{AllocError, Global};
 
-fn unnamed_at(names: &PropertyNames<'_>, reference: Option<PropertyRef<'_>>) -> Option<u32>
+/// The place of a property that is none of some names.
+fn unnamed_at(names: &NameSet<'_>, reference: Option<PropertyRef<'_>>) -> Option<u32>
     ensures { result ≡ least (unnamed names.now (pair reference.entry)) }
 {
     match reference {
@@ -25,8 +25,8 @@ fn unnamed_at(names: &PropertyNames<'_>, reference: Option<PropertyRef<'_>>) -> 
 }
 
 /// The first property that is none of some names.
-#[tactic(auto, using(pg_ast::specs::FaultPlaces::least_found, pg_ast::specs::FaultPlaces::sooner_none))]
-fn no_property(names: &PropertyNames<'_>, items: &[ColumnItem]) -> Option<u32>
+#[tactic(auto, using(pg_rules::specs::Places::least_found, pg_rules::specs::Places::sooner_none))]
+fn no_property(names: &NameSet<'_>, items: &[ColumnItem]) -> Option<u32>
     ensures { result ≡ least (flat_map (λ c. unnamed names.now (spec.reference c)) items.now) }
 {
     let mut found = None;
@@ -36,6 +36,7 @@ fn no_property(names: &PropertyNames<'_>, items: &[ColumnItem]) -> Option<u32>
     found
 }
 
+/// Whether a name is one of the three variables.
 fn is_variable(vars: ThreeVariables<'_>, name: &Text) -> bool
     ensures { result ≡ spec.is_variable (three vars.entry) name.now }
 {
@@ -45,6 +46,7 @@ fn is_variable(vars: ThreeVariables<'_>, name: &Text) -> bool
     source || (edge || dest)
 }
 
+/// The place of a variable that is none of the three.
 fn unknown_at(vars: ThreeVariables<'_>, reference: Option<PropertyRef<'_>>) -> Option<u32>
     ensures { result ≡ least (spec.unknown_variable (three vars.entry) (pair reference.entry)) }
 {
@@ -55,7 +57,7 @@ fn unknown_at(vars: ThreeVariables<'_>, reference: Option<PropertyRef<'_>>) -> O
 }
 
 /// The first variable that is none of the three.
-#[tactic(auto, using(pg_ast::specs::FaultPlaces::least_found, pg_ast::specs::FaultPlaces::sooner_none))]
+#[tactic(auto, using(pg_rules::specs::Places::least_found, pg_rules::specs::Places::sooner_none))]
 fn bad_variable(vars: ThreeVariables<'_>, items: &[ColumnItem]) -> Option<u32>
     ensures { result ≡ least (flat_map (λ c. spec.unknown_variable (three vars.entry) (spec.reference c)) items.now) }
 {
@@ -78,7 +80,7 @@ fn limit(items: &[ColumnItem]) -> Option<u32>
 
 /// Why some columns are refused.
 fn fault_among(
-    names: &PropertyNames<'_>,
+    names: &NameSet<'_>,
     vars: ThreeVariables<'_>,
     items: &[ColumnItem],
 ) -> Option<CheckFault>

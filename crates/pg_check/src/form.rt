@@ -2,9 +2,9 @@
 ghost use Rattle.std.specs.Prelude.{◌≡◌};
 ghost use Rattle.std.specs.List.{list_all};
 ghost use Rattle.std.specs.Option.{option_copied};
-ghost use Rattle.pg_ast.specs.Exprs.{tree_of};
+ghost use Rattle.pg_ast.specs.Trees.{tree_of};
 ghost use Rattle.pg_check.specs.HopForm.{listed, pair, three};
-ghost use Rattle.pg_check.specs.OneHopCheck as spec;
+ghost use Rattle.pg_rules.specs.Queries.OneHop as spec;
 
 use pg_ast::{
     Arrow, ColumnItem, Expr, Filler, Mode, Name, Part, PathPattern, Quant, Query, Selector,
@@ -36,6 +36,7 @@ fn alone(filler: &Filler) -> Option<&Name>
     }
 }
 
+/// The variable of a node that asks nothing else.
 fn node_variable(part: &Part) -> Option<&Name>
     ensures { option_copied result ≡ spec.node_variable part.now }
 {
@@ -46,6 +47,7 @@ fn node_variable(part: &Part) -> Option<&Name>
     }
 }
 
+/// Whether an edge points to the right.
 fn is_right(arrow: Arrow) -> bool
     ensures { result ≡ spec.is_right arrow }
 {
@@ -67,6 +69,7 @@ fn pointing<'a>(arrow: Arrow, filler: &'a Filler, quant: &Option<Quant>) -> Opti
     }
 }
 
+/// The variable of an edge that points to the right and asks nothing else.
 fn edge_variable(part: &Part) -> Option<&Name>
     ensures { option_copied result ≡ spec.edge_variable part.now }
 {
@@ -101,6 +104,7 @@ fn hop_variables<'a>(
     Some(ThreeVariables { source, edge, dest })
 }
 
+/// The variables of `(x)-[e]->(y)`.
 fn part_variables(parts: &[Part]) -> Option<ThreeVariables<'_>>
     ensures { listed result ≡ spec.hop_variables parts.now }
 {
@@ -110,6 +114,7 @@ fn part_variables(parts: &[Part]) -> Option<ThreeVariables<'_>>
     }
 }
 
+/// Whether every walk is allowed.
 fn is_walk(mode: Mode) -> bool
     ensures { result ≡ spec.is_walk mode }
 {
@@ -121,6 +126,7 @@ fn is_walk(mode: Mode) -> bool
     }
 }
 
+/// Whether there is no selector.
 fn is_every(selector: Selector) -> bool
     ensures { result ≡ spec.is_every selector }
 {
@@ -132,6 +138,7 @@ fn is_every(selector: Selector) -> bool
     }
 }
 
+/// The variables of a path pattern without selector and mode.
 fn path_variables(path: &PathPattern) -> Option<ThreeVariables<'_>>
     ensures { listed result ≡ spec.path_variables path.now }
 {
@@ -169,6 +176,7 @@ fn differ(vars: ThreeVariables<'_>) -> bool
     source && (ends && dest)
 }
 
+/// Whether there are three variables, and they differ.
 fn are_right(vars: Option<ThreeVariables<'_>>) -> bool
     ensures { result ≡ spec.three_differ (listed vars.entry) }
 {
@@ -194,12 +202,14 @@ fn reference_in(expr: &Expr) -> Option<PropertyRef<'_>>
     }
 }
 
+/// The variable and the property of a column `v.p`.
 pub fn reference(item: &ColumnItem) -> Option<PropertyRef<'_>>
     ensures { pair result ≡ spec.reference item.now }
 {
     reference_in(&item.expr.expr)
 }
 
+/// Whether a column is a plain property.
 fn is_reference(item: &ColumnItem) -> bool
     ensures { result ≡ spec.is_reference item.now }
 {
@@ -209,6 +219,7 @@ fn is_reference(item: &ColumnItem) -> bool
     }
 }
 
+/// Whether all columns are plain properties.
 fn are_references(items: &[ColumnItem]) -> bool
     ensures { result ≡ list_all spec.is_reference items.now }
 {

@@ -2,12 +2,12 @@
 ghost use Rattle.std.specs.Prelude.{◌≡◌, map};
 ghost use Rattle.std.specs.List.{AllZip};
 ghost use Rattle.pg_ast.specs.declared.pattern.Query.{Query};
-ghost use Rattle.pg_ast.specs.CatalogEntries.{Defined};
-ghost use Rattle.pg_ast.specs.EntryShapes.{shapes};
-ghost use Rattle.pg_ast.specs.HopQuery.{AdmitsAll, edge_tables, one_hop_query};
+ghost use Rattle.pg_rules.specs.Catalog.{Defined};
+ghost use Rattle.pg_rules.specs.Catalog.Shapes.{shapes};
+ghost use Rattle.pg_meaning.specs.HopQuery.{AdmitsAll, edge_tables, one_hop_query};
 ghost use Rattle.pg_check.specs.declared.hop.HopQuery.{HopQuery};
-ghost use Rattle.pg_check.specs.CheckLaws.{Shows, checked_columns};
-ghost use Rattle.pg_check.specs.OneHopCheck.{IsCheckedOf, IsHopOf};
+ghost use Rattle.pg_check.specs.CheckLaws.{checked_columns};
+ghost use Rattle.pg_check.specs.OneHopCheck.{IsCheckedOf, IsHopOf, Shows};
 
 /// The law that what the check gives is a checked query of the query: the query of one edge over the same graph and the
 /// same sets of tables, whose columns show those of the check, each its own, under the same names.

@@ -4,17 +4,12 @@
 
 mod check;
 mod columns;
-mod fault;
 mod faults;
 mod form;
 mod hop;
 mod laws;
-mod least;
-#[cfg(test)]
-mod tests;
 
 pub use check::check_one_hop;
-pub use fault::CheckFault;
 pub use form::is_one_hop;
 pub use hop::{HopColumn, HopQuery};
 pub use laws::{admitted_tables, checked_query};

@@ -21,14 +21,15 @@ use Rattle.pg_value.specs.Orders.{places}
 use Rattle.pg_value.specs.Tables.{Stored, Tables, IsInOrder, held_in, stored_at, place_of, pick}
 use Rattle.pg_value.specs.TablesLaws.{stored_in, stored_at_in}
 use Rattle.pg_value.specs.Graph.{Edge, vertices, edges_in, edge_of, edge_between, end_of, elem_of, elem_place, same_elem, value_in}
-use Rattle.pg_ast.specs.declared.checked.CExpr.TheVariants.{Property}
-use Rattle.pg_ast.specs.declared.checked.CheckedColumn.{CheckedColumn}
-use Rattle.pg_ast.specs.CExprs.{CTree, ctree_of}
-use Rattle.pg_ast.specs.Meaning.{OfVars, value_of, property_first}
-use Rattle.pg_ast.specs.OneHop.{one_hop_query, one_hop_row, one_hop_vars, answer_of, answer_reordered}
+use Rattle.pg_meaning.specs.declared.checked.CExpr.TheVariants.{Property}
+use Rattle.pg_meaning.specs.declared.checked.CheckedColumn.{CheckedColumn}
+use Rattle.pg_meaning.specs.CExprs.{CTree, ctree_of}
+use Rattle.pg_meaning.specs.Meaning.{OfVars, value_of, property_first}
+use Rattle.pg_meaning.specs.OneHop.{one_hop_query, one_hop_row, one_hop_vars, answer_of, answer_reordered}
 use Rattle.pg_check.specs.declared.hop.HopColumn.{HopColumn}
 use Rattle.pg_check.specs.declared.hop.HopQuery.{HopQuery}
-use Rattle.pg_hop.specs.HopAnswer.{Hold, Shows, IsHopAnswer}
+use Rattle.pg_check.specs.OneHopCheck.{Shows}
+use Rattle.pg_hop.specs.HopAnswer.{Hold, Suits, IsHopAnswer}
 use Rattle.pg_hop.specs.EdgeRows.{has_key, end_row, rows_in, is_vertex_table, ends_in, stored_for, own_value, column_value, hop_row, row_between, edge_row, table_rows, numbered_rows, edge_rows}
 
 -- LISTS
@@ -186,7 +187,7 @@ module _ (shapes : Shapes) (lists : List (List Stored)) (h : HopQuery) (tables :
 -- THE ANSWER
 
 -- the rows of the edges, in any order
-pub hop_answer : (shapes : Shapes) (lists : List (List Stored)) (h : HopQuery) (first rows : List Row) → first ≡ edge_rows shapes lists h → IsPermutation first rows → IsHopAnswer shapes lists h rows
-hop_answer shapes lists h first rows f p tables cs hold suits z =
+pub hop_answer : (shapes : Shapes) (lists : List (List Stored)) (h : HopQuery) (first rows : List Row) → Suits shapes h → first ≡ edge_rows shapes lists h → IsPermutation first rows → IsHopAnswer shapes lists h rows
+hop_answer shapes lists h first rows suits f p tables cs hold z =
     answer_reordered shapes tables (one_hop_query h.graph h.vertices h.edges cs) first rows p
     (answer_of shapes h.graph tables h.vertices h.edges cs first hold.in_order suits.differ suits.vertices suits.edges (f ∙ all_same shapes lists h tables cs hold z h.graph.edges))

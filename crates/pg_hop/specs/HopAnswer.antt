@@ -4,22 +4,22 @@ use Rattle.std.specs.List.{AllZip}
 use Rattle.pg_value.specs.declared.row.Row.{Row}
 use Rattle.pg_value.specs.declared.shape.Shapes.{Shapes}
 use Rattle.pg_value.specs.Tables.{Stored, Tables, IsInOrder, held_in}
-use Rattle.pg_ast.specs.declared.checked.CExpr.TheVariants.{Property}
-use Rattle.pg_ast.specs.declared.checked.CheckedColumn.{CheckedColumn}
-use Rattle.pg_ast.specs.Bindings.{Distinct}
-use Rattle.pg_ast.specs.HopQuery.{one_hop_query, AdmitsAll, edge_tables}
-use Rattle.pg_ast.specs.Answers.{Answer}
-use Rattle.pg_check.specs.declared.hop.HopColumn.{HopColumn}
+use Rattle.pg_meaning.specs.declared.checked.CheckedColumn.{CheckedColumn}
+use Rattle.pg_meaning.specs.Bindings.{Distinct}
+use Rattle.pg_meaning.specs.HopQuery.{one_hop_query, AdmitsAll, edge_tables}
+use Rattle.pg_meaning.specs.Answers.{Answer}
 use Rattle.pg_check.specs.declared.hop.HopQuery.{HopQuery}
+use Rattle.pg_check.specs.OneHopCheck.{Shows}
 
 -- tables in order, of which each holds the rows of the list at its number; a table beyond the lists holds none
 pub record Hold (lists : List (List Stored)) (tables : Tables) : Type 0 where
   pub in_order : IsInOrder tables
   pub each : (t : ℕ) → held_in (record { 0 = t }) tables ≡ get_or lists t []
 
--- the column of the checked query
-abbrev pub Shows : HopColumn → CheckedColumn → Type 0
-Shows h c = c.expr ≡ Property h.var h.columns
+-- there are such tables
+pub record AreHeld (lists : List (List Stored)) : Type 0 where
+  pub tables : Tables
+  pub hold : Hold lists tables
 
 -- edge tables that differ, and sets that have the tables of the graph
 pub record Suits (shapes : Shapes) (h : HopQuery) : Type 0 where
@@ -30,5 +30,5 @@ pub record Suits (shapes : Shapes) (h : HopQuery) : Type 0 where
 -- over any tables that hold the lists, these rows are the checked query's answer
 abbrev pub IsHopAnswer : Shapes → List (List Stored) → HopQuery → List Row → Type 0
 IsHopAnswer shapes lists h rows =
-    (tables : Tables) (columns : List CheckedColumn) → Hold lists tables → Suits shapes h → AllZip Shows h.columns columns
+    (tables : Tables) (columns : List CheckedColumn) → Hold lists tables → AllZip Shows h.columns columns
     → Answer shapes tables (one_hop_query h.graph h.vertices h.edges columns) rows

@@ -41,6 +41,7 @@ fn order_to(key: &[Value], columns: &[u32], values: &[Value]) -> Ordering
     }
 }
 
+/// Where the key that is the values in some columns stands.
 fn seek(held: &[Stored], columns: &[u32], values: &[Value]) -> Result<usize, usize>
     requires { Ascends key_of key_cmp held.now }
     ensures { Sought key_of key_cmp (pick columns.now values.now) held.now result }
@@ -59,6 +60,7 @@ fn row_with<'a>(held: &'a [Stored], columns: &[u32], values: &[Value]) -> Option
     }
 }
 
+/// Whether a column holds NULL; one that is missing does.
 fn is_null_at(values: &[Value], column: u32) -> bool
     ensures { result ≡ compare.is_null (slice_index_or values.now column Null) }
 {
@@ -68,6 +70,7 @@ fn is_null_at(values: &[Value], column: u32) -> bool
     }
 }
 
+/// Whether none of some columns holds NULL.
 fn has_key(columns: &[u32], values: &[Value]) -> bool
     ensures { result ≡ spec.has_key columns.now values.now }
 {
@@ -102,6 +105,7 @@ pub fn rows_in<'a>(tables: &'a [List<Stored>], table: TableNo) -> &'a [Stored]
     }
 }
 
+/// Whether a table is one of the graph's vertex tables.
 fn is_vertex_table(vertices: &[TableNo], table: TableNo) -> bool
     ensures { result ≡ spec.is_vertex_table vertices.now table }
 {

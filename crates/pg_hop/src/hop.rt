@@ -7,7 +7,7 @@ ghost use Rattle.pg_value.specs.Order.{key_cmp};
 ghost use Rattle.pg_value.specs.Orders.{row_order};
 ghost use Rattle.pg_value.specs.TablesLaws.{key_of};
 ghost use Rattle.pg_hop.specs.EdgeRows as spec;
-ghost use Rattle.pg_hop.specs.HopAnswer.{IsHopAnswer};
+ghost use Rattle.pg_hop.specs.HopAnswer.{AreHeld, Suits, IsHopAnswer};
 
 use crate::end::{end_row, ends_in, rows_in};
 use crate::row::hop_row;
@@ -37,6 +37,7 @@ fn edge_row(
     Ok(Some(hop_row(alloc, from, edge, to, columns)?))
 }
 
+/// Appends a row, where there is one.
 fn push_some(rows: &mut Vec<Row>, row: Option<Row>) -> Result<(), AllocError>
     ensures { OnOk result (rows.new.items ≡ rows.old.items ++ cons_option row []) }
 {
@@ -93,6 +94,7 @@ fn push_table(
     )
 }
 
+/// Appends the rows of the edges of the edge table of a number.
 fn push_numbered(
     alloc: Global,
     shapes: &Shapes,
@@ -129,15 +131,17 @@ fn edge_rows(
 
 /// The answer of a query of one edge in value order: one row for each row of the graph's edge tables whose source columns
 /// and destination columns hold no NULL and name rows of the vertex tables that they reference. `tables` has the rows of
-/// each table, by its number, in order of their keys, and `query` asks over a graph whose edge tables differ, with the sets
-/// of its vertex and edge tables (`HopAnswer.Suits`), as the check gives it. Only want of memory refuses it.
+/// each table, by its number, in order of their keys, and `query` asks over a graph that names an edge table once, with the
+/// sets of its vertex and edge tables, as the check gives it. Only want of memory refuses it.
 pub fn hop_rows(
     alloc: Global,
     shapes: &Shapes,
     tables: &[List<Stored>],
     query: &HopQuery,
 ) -> Result<List<Row>, AllocError>
-    requires { Each (Ascends key_of key_cmp) tables.now }
+    requires ascends { Each (Ascends key_of key_cmp) tables.now }
+    requires held { AreHeld tables.now }
+    requires suits { Suits shapes.now query.now }
     ensures answer { IfOk result (IsHopAnswer shapes.now tables.now query.now) }
     ensures sorted { IfOk result (λ rows. IsSorted row_order rows) }
 {

@@ -4,7 +4,5 @@
 mod end;
 mod hop;
 mod row;
-#[cfg(test)]
-mod tests;
 
 pub use hop::hop_rows;

@@ -20,6 +20,7 @@ fn place_in(column: &HopColumn, table: TableNo) -> Option<u32>
     }
 }
 
+/// A copy of the value at a place, NULL where there is none.
 fn copy_at(alloc: Global, values: &[Value], at: u32) -> Result<Value, AllocError>
     ensures { IfOk result (λ v. v ≡ slice_index_or values.now at Null) }
 {
@@ -56,6 +57,7 @@ fn stored_for<'a>(
     }
 }
 
+/// The value of a column of the answer.
 fn column_value(
     alloc: Global,
     source: &Stored,

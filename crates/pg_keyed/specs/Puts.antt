@@ -1,6 +1,7 @@
 -- The laws of `put`: what it reads, that it stays in order, that it is the walk over both lists, and that changes put
 -- one after another are their merge.
 use Rattle.std.proofs.Common.{ℕ, ◌≡◌, List, [], ◌∷◌, ◌++◌, Bool, true, false, cond, refl, ap, sym, subst, ◌∙◌, ◌⊎◌, inl, inr}
+use Rattle.std.proofs.lemmas.Option.{same_Some}
 use Rattle.std.specs.declared.option.Option.{Option}
 use Rattle.std.specs.declared.option.Option.TheVariants.{Some, None}
 use Rattle.std.specs.declared.cmp.Ordering.{Ordering}
@@ -15,9 +16,6 @@ use Rattle.pg_keyed.specs.Ranks.{above_none, above_less}
 use Rattle.pg_keyed.specs.Weaves.{weave_step, weave_ascends, weave_reads, weave_replaces, weave_adds}
 use Rattle.pg_keyed.specs.Reads.{filter_ascends, join_ascends, get_filter}
 pub use Rattle.pg_keyed.specs.Reads.{alike, get_here, get_there, here_or, get_key}
-
-some_is : {A : Type 0} (x y : A) → Some x ≡ Some y → x ≡ y
-some_is x y h = cc
 
 -- the first of two, where there is one
 abbrev first_of : {X : Type 0} → Option X → Option X → Option X
@@ -214,14 +212,14 @@ module _ {X W K : Type 0} (key : X → K) (named : W → K) (row : W → Option 
 module _ {W K : Type 0} (named : W → K) (cmp : K → K → Ordering) (o : Exact cmp) where
   pub own_fits : (ws : List W) → Fits named named (λ (w : W). Some w) cmp ws
   own_fits [] = tt
-  own_fits (w ∷ ws) = (λ x e. ap named (sym (some_is w x e)), own_fits ws)
+  own_fits (w ∷ ws) = (λ x e. ap named (sym (same_Some w x e)), own_fits ws)
 
   pub merge_ascends : (a b : List W) → Ascends named cmp a → Ascends named cmp b → Ascends named cmp (merge named cmp a b)
   merge_ascends a b h k = put_ascends named named (λ (w : W). Some w) cmp o a b (own_fits b) h k
 
   each_own : (Q : W → Type 0) (ws : List W) → Each Q ws → Each (λ w. (x : W) → Some w ≡ Some x → Q x) ws
   each_own Q [] h = tt
-  each_own Q (w ∷ ws) h = (λ x e. subst Q (some_is w x e) h.0, each_own Q ws h.1)
+  each_own Q (w ∷ ws) h = (λ x e. subst Q (same_Some w x e) h.0, each_own Q ws h.1)
 
   pub merge_each : (Q : W → Type 0) (a b : List W) → Each Q a → Each Q b → Each Q (merge named cmp a b)
   merge_each Q a b h k = put_each named named (λ (w : W). Some w) cmp o Q a b h (each_own Q b k)

@@ -1,5 +1,6 @@
 -- What a list in key order reads at each key: that determines it, and its members do.
 use Rattle.std.proofs.Common.{◌≡◌, List, [], ◌∷◌, ◌++◌, Bool, true, false, cond, ◌⊎◌, inl, inr, refl, ap, sym, subst, ◌∙◌}
+use Rattle.std.proofs.lemmas.Option.{same_Some, none-some}
 use Rattle.std.specs.declared.option.Option.{Option}
 use Rattle.std.specs.declared.option.Option.TheVariants.{Some, None}
 use Rattle.std.specs.declared.cmp.Ordering.{Ordering}
@@ -11,12 +12,6 @@ use Rattle.pg_keyed.specs.Lists.{Each, Among, Distinct, each_filter, each_append
 use Rattle.pg_keyed.specs.Keyed.{Above, Ascends, get}
 use Rattle.pg_keyed.specs.Orders.{Exact, same, turn, cases}
 use Rattle.pg_keyed.specs.Ranks.{above_none, above_less}
-
-some_is : {A : Type 0} (x y : A) → Some x ≡ Some y → x ≡ y
-some_is x y h = cc
-
-not_some : {A : Type 0} (x : A) → None ≡ Some x → ⊥
-not_some x h = cc
 
 less_equal : Less ≡ Equal → ⊥
 less_equal h = cc
@@ -41,15 +36,15 @@ module _ {X K : Type 0} (key : X → K) (cmp : K → K → Ordering) (o : Exact 
 
   pub alike : (xs ys : List X) → Ascends key cmp xs → Ascends key cmp ys → ((k : K) → get key cmp k xs ≡ get key cmp k ys) → xs ≡ ys
   alike [] [] a b h = refl
-  alike [] (y ∷ ys) a b h = absurd (not_some y (h (key y) ∙ get_here y ys))
-  alike (x ∷ xs) [] a b h = absurd (not_some x (sym (h (key x)) ∙ get_here x xs))
+  alike [] (y ∷ ys) a b h = absurd (none-some y (h (key y) ∙ get_here y ys))
+  alike (x ∷ xs) [] a b h = absurd (none-some x (sym (h (key x)) ∙ get_here x xs))
   alike (x ∷ xs) (y ∷ ys) a b h =
       let first : x ≡ y = elim (cases (cmp (key x) (key y))) [
         | inl le ↦ elim le [
-          | inl l ↦ absurd (not_some x (sym (get_there (key x) y ys (ap is_eq l) ∙ above_none key cmp o (key x) ys (above_less key cmp o (key x) (key y) ys l b.0)) ∙ sym (h (key x)) ∙ get_here x xs))
-          | inr e ↦ some_is x y (sym (get_here x xs) ∙ h (key x) ∙ ap (λ k. get key cmp k (y ∷ ys)) (o.exact (key x) (key y) e) ∙ get_here y ys)
+          | inl l ↦ absurd (none-some x (sym (get_there (key x) y ys (ap is_eq l) ∙ above_none key cmp o (key x) ys (above_less key cmp o (key x) (key y) ys l b.0)) ∙ sym (h (key x)) ∙ get_here x xs))
+          | inr e ↦ same_Some x y (sym (get_here x xs) ∙ h (key x) ∙ ap (λ k. get key cmp k (y ∷ ys)) (o.exact (key x) (key y) e) ∙ get_here y ys)
         ]
-        | inr g ↦ (let l = turn o (key x) (key y) Greater g in absurd (not_some y (sym (get_there (key y) x xs (ap is_eq l) ∙ above_none key cmp o (key y) xs (above_less key cmp o (key y) (key x) xs l a.0)) ∙ h (key y) ∙ get_here y ys)))
+        | inr g ↦ (let l = turn o (key x) (key y) Greater g in absurd (none-some y (sym (get_there (key y) x xs (ap is_eq l) ∙ above_none key cmp o (key y) xs (above_less key cmp o (key y) (key x) xs l a.0)) ∙ h (key y) ∙ get_here y ys)))
       ] in
       let rest : (k : K) → get key cmp k xs ≡ get key cmp k ys = λ k. elim (here_or k x) [
         | inl e ↦ ap (λ j. get key cmp j xs) e ∙ none_there x xs a.0 ∙ sym (none_there y ys b.0) ∙ ap (λ j. get key cmp j ys) (sym (e ∙ ap key first))
@@ -59,9 +54,9 @@ module _ {X K : Type 0} (key : X → K) (cmp : K → K → Ordering) (o : Exact 
       λ i. first i ∷ more i
 
   pub get_key : (k : K) (xs : List X) (x : X) → get key cmp k xs ≡ Some x → k ≡ key x
-  get_key k [] x h = absurd (not_some x h)
+  get_key k [] x h = absurd (none-some x h)
   get_key k (y ∷ ys) x h = elim (here_or k y) [
-    | inl e ↦ e ∙ ap key (some_is y x (sym (ap (λ j. get key cmp j (y ∷ ys)) e ∙ get_here y ys) ∙ h))
+    | inl e ↦ e ∙ ap key (same_Some y x (sym (ap (λ j. get key cmp j (y ∷ ys)) e ∙ get_here y ys) ∙ h))
     | inr n ↦ get_key k ys x (sym (get_there k y ys n) ∙ h)
   ]
 
@@ -72,11 +67,11 @@ module _ {X K : Type 0} (key : X → K) (cmp : K → K → Ordering) (o : Exact 
       get_there (key x) y ys (ap is_eq (turn o (key y) (key x) Less l)) ∙ among_get x ys a.1 m
 
   pub get_among : (k : K) (xs : List X) (x : X) → get key cmp k xs ≡ Some x → Among x xs
-  get_among k [] x h = absurd (not_some x h)
+  get_among k [] x h = absurd (none-some x h)
   get_among k (y ∷ ys) x h = go (is_eq (cmp k (key y))) h (λ m. get_among k ys x m)
     where
       go : (b : Bool) → cond b (Some y) (get key cmp k ys) ≡ Some x → (get key cmp k ys ≡ Some x → Among x ys) → (x ≡ y) ⊎ Among x ys
-      go true e again = inl (sym (some_is y x e))
+      go true e again = inl (sym (same_Some y x e))
       go false e again = inr (again e)
 
   -- lists in order with the same members are one

@@ -1,6 +1,7 @@
 -- A binary search by the key finds the item of the key, or its place; and a change is put there.
-use Rattle.std.proofs.Common.{ℕ, zero, suc, ◌≡◌, ◌-◌, ◌<◌, ◌≤◌, List, [], ◌∷◌, length, get_or, cond, refl, ap, subst, ◌∙◌, arith, add-one}
+use Rattle.std.proofs.Common.{ℕ, zero, suc, ◌≡◌, ◌-◌, ◌<◌, ◌≤◌, List, [], ◌∷◌, length, get_or, cond, refl, ap, sym, subst, ◌∙◌, arith, add-one}
 use Rattle.std.specs.Prelude.{slice_get, slice_set, Result, Ok, Err}
+use Rattle.std.proofs.lemmas.Option.{none-some}
 use Rattle.std.specs.declared.option.Option.{Option}
 use Rattle.std.specs.declared.option.Option.TheVariants.{Some, None}
 use Rattle.std.specs.declared.cmp.Ordering.{Ordering}
@@ -21,10 +22,7 @@ none_below Greater h = absurd (omega arith)
 
 pub some_within : {X : Type 0} (xs : List X) (i : ℕ) → i < length xs → slice_get xs i ≡ None → ⊥
 some_within [] i l e = omega arith
-some_within (x ∷ xs) zero l e = some_none x e
-  where
-    some_none : {A : Type 0} (y : A) → Some y ≡ None → ⊥
-    some_none y h = cc
+some_within (x ∷ xs) zero l e = none-some x (sym e)
 some_within (x ∷ xs) (suc i) l e = some_within xs i (omega arith) e
 
 module _ {X K : Type 0} (key : X → K) (cmp : K → K → Ordering) (o : Exact cmp) where

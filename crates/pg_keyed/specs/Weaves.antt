@@ -1,5 +1,6 @@
 -- The walk over items and changes, each in key order: what its result reads, and that it is in order.
 use Rattle.std.proofs.Common.{ℕ, suc, ◌≡◌, ◌+◌, List, [], ◌∷◌, false, cond, refl, ap, sym, subst, ◌∙◌, inl, inr, add-one}
+use Rattle.std.proofs.lemmas.Option.{same_Some, none-some}
 use Rattle.std.specs.declared.option.Option.{Option}
 use Rattle.std.specs.declared.option.Option.TheVariants.{Some, None}
 use Rattle.std.specs.declared.cmp.Ordering.{Ordering}
@@ -11,12 +12,6 @@ use Rattle.pg_keyed.specs.Keyed.{Above, Ascends, get, rank, over, weave, weave_f
 use Rattle.pg_keyed.specs.Orders.{Exact, same, turn, cases}
 use Rattle.pg_keyed.specs.Ranks.{above_none, above_less}
 use Rattle.pg_keyed.specs.Reads.{get_here, get_there, here_or}
-
-some_is : {A : Type 0} (x y : A) → Some x ≡ Some y → x ≡ y
-some_is x y h = cc
-
-not_some : {A : Type 0} (x : A) → None ≡ Some x → ⊥
-not_some x h = cc
 
 -- what the walk gives
 module _ {X W K : Type 0} (key : X → K) (named : W → K) (row : W → Option X) (cmp : K → K → Ordering) (o : Exact cmp) where
@@ -149,11 +144,11 @@ module _ {X W K : Type 0} (key : X → K) (named : W → K) (row : W → Option 
 -- one change woven into a list of changes
 module _ {W K : Type 0} (named : W → K) (cmp : K → K → Ordering) (o : Exact cmp) where
   pub weave_replaces : (xs : List W) (w x : W) (i : ℕ) → i ≡ rank named cmp (named w) xs → slice_get xs i ≡ Some x → cmp (named w) (named x) ≡ Equal → weave named named (λ (v : W). Some v) cmp xs (w ∷ []) ≡ slice_set xs i w
-  weave_replaces [] w x i r s e = absurd (not_some x s)
+  weave_replaces [] w x i r s e = absurd (none-some x s)
   weave_replaces (y ∷ ys) w x i r s e = elim (cases (cmp (named w) (named y))) [
     | inl le ↦ elim le [
       | inl l ↦ (let z : i ≡ 0 = r ∙ ap (λ b. cond b (rank named cmp (named w) ys + 1) 0) (ap is_gt l) in
-          let yx : y ≡ x = some_is y x (sym (ap (λ j. slice_get (y ∷ ys) j) z) ∙ s) in
+          let yx : y ≡ x = same_Some y x (sym (ap (λ j. slice_get (y ∷ ys) j) z) ∙ s) in
           absurd (less_equal (sym l ∙ ap (λ q. cmp (named w) (named q)) yx ∙ e)))
       | inr q ↦ (let z : i ≡ 0 = r ∙ ap (λ b. cond b (rank named cmp (named w) ys + 1) 0) (ap is_gt q) in
           weave_step named named (λ (v : W). Some v) cmp o Equal y ys w [] (turn o (named w) (named y) Equal q) ∙ ap (λ zs. w ∷ zs) (weave_nothing named named (λ (v : W). Some v) cmp o ys) ∙ sym (ap (λ j. slice_set (y ∷ ys) j w) z))
@@ -173,7 +168,7 @@ module _ {W K : Type 0} (named : W → K) (cmp : K → K → Ordering) (o : Exac
     | inl le ↦ elim le [
       | inl l ↦ (let z : i ≡ 0 = r ∙ ap (λ b. cond b (rank named cmp (named w) ys + 1) 0) (ap is_gt l) in
           weave_step named named (λ (v : W). Some v) cmp o Greater y ys w [] (turn o (named w) (named y) Less l) ∙ ap (λ zs. w ∷ zs) (weave_nothing named named (λ (v : W). Some v) cmp o (y ∷ ys)) ∙ sym (ap (λ j. insert (y ∷ ys) j w) z))
-      | inr q ↦ absurd (not_some y (sym n ∙ ap (λ b. cond b (Some y) (get named cmp (named w) ys)) (ap is_eq q)))
+      | inr q ↦ absurd (none-some y (sym n ∙ ap (λ b. cond b (Some y) (get named cmp (named w) ys)) (ap is_eq q)))
     ]
     | inr g ↦ (let z : i ≡ suc (rank named cmp (named w) ys) = r ∙ ap (λ b. cond b (rank named cmp (named w) ys + 1) 0) (ap is_gt g) ∙ rw add-one refl in
         weave_step named named (λ (v : W). Some v) cmp o Less y ys w [] (turn o (named w) (named y) Greater g)

@@ -11,7 +11,7 @@ use Rattle.pg_lex.specs.Tokens.{Spells, MayEnd, Stands, NoToken, IsUnclosed, is_
 use Rattle.pg_lex.specs.Front.{HasFront, IsPlain, is_single, is_pair, symbol_at, word_at, number_at, plain_at}
 use Rattle.pg_lex.specs.Spelled.{Letter, Digit, Double, Single, Other, class_of, front_class, kind_class, spells_class, spells_some, is_short, symbol_short, letter_class, digit_class, same_front}
 
--- ---- fronts that pass a test
+-- FRONTS THAT PASS A TEST
 
 run_within : (f : ℕ → Bool) (text : List ℕ) → prefix_len f text ≤ length text
 run_within f [] = omega arith
@@ -47,7 +47,7 @@ run_starts f g k (b ∷ bs) h =
 letter_word : (b : ℕ) → is_letter b ≡ true → is_word_byte b ≡ true
 letter_word b h = rw h refl
 
--- ---- a token in front
+-- A TOKEN IN FRONT
 
 stands_front : (text : List ℕ) (n : ℕ) (k : TokenKind) → n ≤ length text → Spells k (take n text)
     → ((other more : List ℕ) (j : TokenKind) → text ≡ other ++ more → Spells j other → length other ≤ n) → MayEnd k (drop n text) → HasFront text (k, n)
@@ -60,7 +60,7 @@ stands_front text n k w s l m = (
   },
 )
 
--- ---- words and numbers
+-- WORDS AND NUMBERS
 
 word_longest : (text other more : List ℕ) (k : TokenKind) → front_class text ≡ Some Letter → text ≡ other ++ more → front_class text ≡ Some (kind_class k) → Spells k other → length other ≤ prefix_len is_word_byte text
 word_longest text other more (Word w) c e h l = run_longest is_word_byte text other more e l.1
@@ -101,7 +101,7 @@ no_number text used rest End d l e h c = h.spells
 no_number text used rest Bad d l e h c = h.spells
 no_number text used rest _ d l e h c = let f = digit_class text d in cc
 
--- ---- symbols
+-- SYMBOLS
 
 or_assoc : (a b c : Bool) → ((a || b) || c) ≡ (a || (b || c))
 or_assoc true b c = refl
@@ -174,7 +174,7 @@ no_symbol b bs o h n kind used rest e l = only_symbol ⊥ used kind (sym (ap Som
       | inr w ↦ n w.0 w.1 w.2 w.4
     ])
 
--- ---- all of them
+-- ALL OF THEM
 
 pub plain_closed : (text : List ℕ) → IsPlain (front_class text) → IsUnclosed text → ⊥
 plain_closed text p (inl (t, e)) = subst (λ (l : List ℕ). IsPlain (front_class l)) e p

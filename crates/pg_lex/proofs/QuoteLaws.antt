@@ -13,7 +13,7 @@ use Rattle.pg_lex.specs.Tokens.{Spells, MayEnd, IsUnclosed, doubled, quoted}
 use Rattle.pg_lex.specs.Front.{IsFront, IsBody}
 use Rattle.pg_lex.specs.Spelled.{Double, Single, front_class, kind_class, spells_class, closes_first, never_closes}
 
--- ---- reading on
+-- READING ON
 
 abbrev pub HasNo : ℕ → List ℕ → Type 0
 HasNo q bs = (i : ℕ) → i < length bs → get_or bs i 0 ≢ q
@@ -67,7 +67,7 @@ utf8_after q bytes front more e w u =
 pub closed_len : (q : ℕ) (text out rest : List ℕ) → text ≡ doubled q out ++ q ∷ rest → length text - length rest ≡ length (doubled q out) + 1
 closed_len q text out rest e = omega (arith, ap length e, length-append (doubled q out) (q ∷ rest))
 
--- ---- what stands at the front
+-- WHAT STANDS AT THE FRONT
 
 -- a quoted text's bytes, and that none longer spells a token
 closed_at : (q : ℕ) (bytes text more : List ℕ) (n : ℕ) → bytes ≡ doubled q text ++ q ∷ more → n ≡ length (doubled q text) + 1

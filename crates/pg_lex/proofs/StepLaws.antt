@@ -104,7 +104,7 @@ unclosed_next base at n text left r none quote =
     let some : drop (at + n) text ≢ [] = unclosed_some (drop (at + n) text) quote in
     last_next base at n (base + length text) text left Bad r refl (omega arith) (omega arith) (some, none, inl (quote, omega (arith, length-drop (at + n) text)))
 
--- ---- all tokens
+-- ALL TOKENS
 
 -- the tokens so far, before any that are those of the rest
 abbrev pub Completes : ℕ → List ℕ → List Token → ℕ → Type 0

@@ -10,7 +10,7 @@ use Rattle.pg_lex.specs.Bytes.{is_white, starts_with}
 use Rattle.pg_lex.specs.Tokens.{Stands, IsUnclosed, Blank, White, Comment, bytes_of, is_line, EndsLine, IsBlank, AreBlank, IsClear, Gap, Begins, IsLast, Ends, Tokens}
 use Rattle.pg_lex.specs.Spelled.{spells_some, stands_once}
 
--- ---- blanks
+-- BLANKS
 
 no_feed : (c : ℕ) (line : List ℕ) → is_line (c ∷ line) ≡ true → (c == 10) ≡ true → ⊥
 no_feed c line h e = both_ways (is_line (c ∷ line)) (rw e refl) h
@@ -58,7 +58,7 @@ gap_once g h x y e p q =
     let k = blanks_once p.blanks q.blanks x y d p.each q.each p.clear q.clear in
     (p.bytes ∙ ap (flat_map bytes_of) k.0 ∙ sym q.bytes, k.1)
 
--- ---- tokens
+-- TOKENS
 
 -- an unclosed quote's place, or the first byte
 bad_once : (P : Type 0) (a b p q : ℕ) → (P × (p ≡ a)) ⊎ ((P → ⊥) × (p ≡ b)) → (P × (q ≡ a)) ⊎ ((P → ⊥) × (q ≡ b)) → p ≡ q

@@ -11,7 +11,7 @@ use Rattle.pg_lex.specs.declared.token.TokenKind.TheVariants.{Word, Quoted, Numb
 use Rattle.pg_lex.specs.Bytes.{is_digit, is_letter, starts, starts_with}
 use Rattle.pg_lex.specs.Tokens.{Spells, Stands, symbols, is_symbol, doubled, quoted}
 
--- ---- the first byte tells the kind
+-- THE FIRST BYTE TELLS THE KIND
 
 pub data Class : Type 0 where
   Letter : Class
@@ -110,7 +110,7 @@ same_front (c ∷ a) (d ∷ b) x y e n =
     let k = same_front a b x y t m in
     (rw (h, k.0) refl, k.1)
 
--- ---- quotes
+-- QUOTES
 
 -- what a first byte makes of a text whose quotes are doubled
 abbrev IsDoubled : ℕ → ℕ → List ℕ → Type 0
@@ -256,7 +256,7 @@ quoted_same q u t e =
     let b = closes_first q t u [] [] (sym g) refl in
     doubled_same q u t (same_front (doubled q u) (doubled q t) (q ∷ []) (q ∷ []) g (omega arith)).0
 
--- ---- one token at the front
+-- ONE TOKEN AT THE FRONT
 
 -- bytes spell one token
 pub spells_once : (k j : TokenKind) (used : List ℕ) → Spells k used → Spells j used → k ≡ j

@@ -1,3 +1,4 @@
+//! White space and comments.
 ghost use Rattle.std.specs.Prelude.{◌≡◌, ◌≤◌, ◌<◌, not, ◌==◌, length, take, drop};
 ghost use Rattle.std.specs.List.{prefix_len};
 ghost use Rattle.pg_lex.specs.Tokens.{Gap, IsClear};
@@ -5,7 +6,7 @@ ghost use Rattle.pg_lex.specs.Blanks.{BeginsBlank};
 
 use crate::bytes::is_white;
 
-// The length of the line that begins here, without its line feed.
+/// The length of the line that begins here, without its line feed.
 fn line_len(bytes: &[u8]) -> usize
     ensures value { result ≡ prefix_len (λ b. not (b == 10)) bytes.now }
     ensures within { result ≤ length bytes.now }
@@ -13,7 +14,7 @@ fn line_len(bytes: &[u8]) -> usize
     bytes.iter().take_while(|b| **b != b'\n').count()
 }
 
-// The length of the white byte or comment that begins here, or 0.
+/// The length of the white byte or comment that begins here, or 0.
 fn blank_len(bytes: &[u8]) -> usize
     ensures within { result ≤ length bytes.now }
     ensures none { result ≡ 0 → IsClear bytes.now }

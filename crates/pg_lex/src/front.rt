@@ -1,3 +1,4 @@
+//! What stands behind blanks: a token, a quote that is not closed, or neither.
 ghost use Rattle.std.specs.Prelude.{◌≡◌, ◌<◌, ◌≤◌, ◌+◌, ◌∷◌, length, drop, slice_index, IfOk};
 ghost use Rattle.pg_lex.specs.Front.{IsFront, IsPlain};
 ghost use Rattle.pg_lex.specs.Spelled.{front_class};
@@ -15,7 +16,7 @@ pub enum Front {
     Nothing,
 }
 
-// The text literal that begins with a quote before this text.
+/// The text literal that begins with a quote before this text.
 fn literal(alloc: Global, text: &str) -> Result<Front, AllocError>
     ensures { IfOk result (λ found. IsFront found (39 ∷ text.now)) }
 {
@@ -25,7 +26,7 @@ fn literal(alloc: Global, text: &str) -> Result<Front, AllocError>
     }
 }
 
-// The delimited identifier that begins with a double quote before this text.
+/// The delimited identifier that begins with a double quote before this text.
 fn delimited(alloc: Global, text: &str) -> Result<Front, AllocError>
     ensures { IfOk result (λ found. IsFront found (34 ∷ text.now)) }
 {
@@ -41,7 +42,7 @@ fn delimited(alloc: Global, text: &str) -> Result<Front, AllocError>
     }
 }
 
-// What follows the ASCII character at a place.
+/// What follows the ASCII character at a place.
 fn behind(text: &str, at: usize) -> &str
     requires within { at < length text.now }
     requires ascii { slice_index text.now at < 128 }
@@ -63,7 +64,7 @@ pub fn find_front(alloc: Global, text: &str, at: usize) -> Result<Front, AllocEr
     }
 }
 
-// What stands before bytes that begin with no quote.
+/// What stands before bytes that begin with no quote.
 fn unquoted(alloc: Global, bytes: &[u8]) -> Result<Front, AllocError>
     requires { IsPlain (front_class bytes.now) }
     ensures { IfOk result (λ found. IsFront found bytes.now) }

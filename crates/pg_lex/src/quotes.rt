@@ -1,3 +1,4 @@
+//! Text between quotes.
 ghost use Rattle.std.specs.Prelude.{◌≡◌, ◌<◌, IfOk};
 ghost use Rattle.pg_lex.specs.Front.{IsBody};
 

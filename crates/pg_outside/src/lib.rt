@@ -10,6 +10,3 @@ pub use memory_sink::MemSink;
 pub use memory_source::MemSource;
 pub use streams::{StdSink, StdSource};
 pub use traits::{Failed, Sink, Source};
-
-#[cfg(test)]
-mod tests;

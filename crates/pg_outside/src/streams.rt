@@ -1,4 +1,4 @@
-ghost use Rattle.std.specs.Prelude.{◌≡◌, ◌<◌, length, OnOk, OnErr};
+ghost use Rattle.std.specs.Prelude.{◌≡◌, ◌<◌, length, OnErr};
 ghost use Rattle.std.specs.Io.{ReadsAtMost};
 ghost use Rattle.std.specs.Io.KnownBytes.{ReadConsumes, WriteAppends};
 ghost use Rattle.pg_outside.specs.Causes.{HasCause, TakesSome, raised};
@@ -42,7 +42,6 @@ impl<R: Read> Source for StdSource<R> {
         ensures bound { ReadsAtMost result into.new }
         ensures bytes { ReadConsumes self.old.bytes self.new.bytes result into.new }
         ensures cause { HasCause self.old.faults self.new.faults result }
-        ensures ok { OnOk result (self.new.faults ≡ self.old.faults) }
         ensures err { OnErr result (self.new.faults ≡ raised self.old.faults) }
     {
         match self.inner.read(into) {
@@ -91,7 +90,6 @@ impl<W: Write> Sink for StdSink<W> {
         ensures bound { TakesSome result piece.now }
         ensures bytes { WriteAppends self.old.bytes self.new.bytes result piece.now }
         ensures cause { HasCause self.old.faults self.new.faults result }
-        ensures ok { OnOk result (self.new.faults ≡ self.old.faults) }
         ensures err { OnErr result (self.new.faults ≡ raised self.old.faults) }
     {
         match self.inner.write(piece) {

@@ -1,3 +1,3 @@
+-- The lemmas that the proofs of pg_pattern share.
 pub mod Turns
-pub mod Numbers
 pub mod QueryPlaces

@@ -4,17 +4,16 @@ use Rattle.std.proofs.lemmas.List.{append-nil, length-append, take-append-drop, 
 use Rattle.std.proofs.Math.Seq.{drop-append_seam, take-length}
 use Rattle.pg_lex.specs.declared.token.Token.{Token}
 use Rattle.pg_ast.specs.declared.pattern.Query.{Query}
-use Rattle.pg_ast.specs.Terminals.{Tokens, AName, Inner, matches, place_of}
-use Rattle.pg_ast.specs.GrammarQueries as grammar
-use Rattle.pg_ast.specs.GrammarQueries.{NoAlias, QueryAt, FirstFault}
-use Rattle.pg_ast.specs.Terminals.{IsEnded}
-use Rattle.pg_ast.specs.PatternWords as word
-use Rattle.pg_phrase.specs.Reading.{Outcome, Fails}
-use Rattle.pg_phrase.specs.declared.fault.Fault.{Fault}
-use Rattle.pg_phrase.specs.declared.fault.Fault.TheVariants.{Syntax}
-use Rattle.pg_phrase.specs.Kit.{Explains}
-use Rattle.pg_pattern.specs.ReadQueries as parser
-use Rattle.pg_pattern.specs.QueryLaws.{parses-query, bare-read, named-read, unnamed-read}
+use Rattle.pg_ast.specs.Words.Terminals.{Tokens, AName, Inner, matches, place_of, IsEnded}
+use Rattle.pg_ast.specs.Grammar.Queries as grammar
+use Rattle.pg_ast.specs.Grammar.Queries.{NoAlias, QueryAt, FirstFault}
+use Rattle.pg_ast.specs.Words.Patterns as word
+use Rattle.pg_grammar.specs.Kit.Reading.{Outcome, Fails}
+use Rattle.pg_grammar.specs.declared.fault.Fault.{Fault}
+use Rattle.pg_grammar.specs.declared.fault.Fault.TheVariants.{Syntax}
+use Rattle.pg_grammar.specs.Kit.{Explains}
+use Rattle.pg_pattern.specs.Read as parser
+use Rattle.pg_pattern.specs.Laws.{parses-query, bare-read, named-read, unnamed-read}
 
 abbrev read : Query → Tokens → Outcome Query
 read q r = Ok (q, r)
@@ -42,7 +41,7 @@ same-rest p q r s e = ap (rest_or r) e
 explained : (ts : Tokens) (o : Outcome Query) → parser.query ts ≡ o → Explains grammar.query parser.query ts o
 explained ts o e = subst (λ (o : Outcome Query). Explains grammar.query parser.query ts o) e (parses-query.exact.explains ts)
 
--- ---- where the query has no alias, none follows
+-- WHERE THE QUERY HAS NO ALIAS, NONE FOLLOWS
 
 shorter : (t : Token) (v w : Tokens) → length w ≤ length v → w ≡ t ∷ v → ⊥
 shorter t v w l e = let n : length w ≡ suc (length v) = ap length e in omega (arith, l, n)
@@ -74,7 +73,7 @@ from-slice first slice tokens e =
     ∙ take-length (drop first slice)
     ∙ ap (drop first) e
 
--- ---- what is read stands there
+-- WHAT IS READ STANDS THERE
 
 pub found : (tokens : Tokens) (first : ℕ) (q : Query) (rest : Tokens) → first ≤ length tokens → parser.query (drop first tokens) ≡ Ok (q, rest) → QueryAt tokens first q (length tokens - length rest)
 found tokens first q rest within e =
@@ -104,7 +103,7 @@ left tokens first q rest e =
     let here : length (drop first tokens) ≡ length k.front + length rest = ap length k.parts ∙ length-append k.front rest in
     omega (arith, before, here)
 
--- ---- what stands there is read
+-- WHAT STANDS THERE IS READ
 
 from-place : (tokens : Tokens) (first : ℕ) (q : Query) (after : ℕ) (h : QueryAt tokens first q after) → drop first tokens ≡ h.middle ++ h.back
 from-place tokens first q after h =
@@ -137,7 +136,7 @@ one-query tokens first p q m n g h =
     let k = only tokens first p q g.back n (stands tokens first p m g) h in
     (k.0, place tokens first p m g ∙ k.1)
 
--- ---- a fault is the first
+-- A FAULT IS THE FIRST
 
 inner-back : (a b : Tokens) → Inner (a ++ b) → Inner b
 inner-back [] b i = i

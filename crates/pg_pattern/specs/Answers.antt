@@ -1,8 +1,8 @@
 -- Answers of reading a query within a list of tokens.
 use Rattle.std.specs.Prelude.{ℕ, ◌≡◌, Result, Ok, Err}
-use Rattle.pg_ast.specs.Terminals.{Tokens}
+use Rattle.pg_ast.specs.Words.Terminals.{Tokens}
 use Rattle.pg_ast.specs.declared.pattern.Query.{Query}
-use Rattle.pg_ast.specs.GrammarQueries.{FirstFault}
+use Rattle.pg_ast.specs.Grammar.Queries.{FirstFault}
 use Rattle.pg_pattern.specs.declared.fault.ParseFault.{ParseFault}
 use Rattle.pg_pattern.specs.declared.fault.ParseFault.TheVariants.{Syntax, Memory}
 

@@ -1,9 +1,4 @@
-pub mod ReadPatterns
-pub mod RuleLaws
-pub mod FactoredPatterns
-pub mod PatternLaws
-pub mod ReadQueries
-pub mod ColumnLaws
-pub mod QueryLaws
+-- What pg_pattern is proved against.
 pub mod Answers
-pub mod Lexed
+pub mod Laws
+pub mod Read

@@ -1,16 +1,17 @@
 //! Nodes and groups between edges.
-ghost use Rattle.std.specs.Prelude.{◌≡◌, [], ◌∷◌, ◌++◌};
-ghost use Rattle.pg_phrase.specs.Reading.{Reads, OfMemory};
-ghost use Rattle.pg_pattern.specs.ReadPatterns as spec;
+ghost use Rattle.std.specs.Prelude.{◌≡◌};
+ghost use Rattle.pg_grammar.specs.Kit.Reading.{Reads, OfMemory};
+ghost use Rattle.pg_pattern.specs.Read.Patterns as spec;
 
 use crate::edges::{edge, sees_edge};
 use crate::fillers::{condition, node, node_rest};
 use crate::quantifiers::quantifier;
-use pg_ast::{Arrow, Chain, Filler, Part};
-use pg_phrase::{Cursor, Fault};
+use pg_ast::{Arrow, Chain, Filler, Part, Quant, Whole};
+use pg_grammar::{Cursor, Fault};
 use pg_value::List;
 use std::alloc::Global;
 
+/// A chain of one node.
 fn first_of(alloc: Global, node: Filler) -> Result<Chain, Fault>
     ensures { OfMemory result (spec.first_of node) }
 {
@@ -23,6 +24,7 @@ fn first_of(alloc: Global, node: Filler) -> Result<Chain, Fault>
     })
 }
 
+/// The chain with that edge and that node behind it.
 fn linked(chain: Chain, arrow: Arrow, edge: Filler, node: Filler) -> Result<Chain, Fault>
     ensures { OfMemory result (spec.linked chain arrow edge node) }
 {
@@ -41,7 +43,8 @@ fn linked(chain: Chain, arrow: Arrow, edge: Filler, node: Filler) -> Result<Chai
     })
 }
 
-#[tactic(auto, unfolding(crate::specs::ReadPatterns::link))]
+/// An edge and a node, behind a chain.
+#[tactic(auto, unfolding(crate::specs::Read::Patterns::link))]
 fn link(alloc: Global, cursor: &mut Cursor<'_>, chain: Chain) -> Result<Chain, Fault>
     ensures { Reads (spec.link chain cursor.old) result cursor.new }
 {
@@ -50,8 +53,8 @@ fn link(alloc: Global, cursor: &mut Cursor<'_>, chain: Chain) -> Result<Chain, F
     linked(chain, arrow, filler, node)
 }
 
-// One or more edges, each with a node behind it.
-#[tactic(auto, unfolding(pg_phrase::specs::Reading::turns))]
+/// One or more edges, each with a node behind it.
+#[tactic(auto, unfolding(pg_grammar::specs::Kit::Reading::turns))]
 fn links(alloc: Global, cursor: &mut Cursor<'_>, chain: Chain) -> Result<Chain, Fault>
     ensures { Reads (spec.links chain cursor.old) result cursor.new }
 {
@@ -65,7 +68,8 @@ fn links(alloc: Global, cursor: &mut Cursor<'_>, chain: Chain) -> Result<Chain, 
     Ok(found)
 }
 
-#[tactic(auto, unfolding(crate::specs::ReadPatterns::chain))]
+/// A node, and edges with a node behind each.
+#[tactic(auto, unfolding(crate::specs::Read::Patterns::chain))]
 fn chain(alloc: Global, cursor: &mut Cursor<'_>) -> Result<Chain, Fault>
     ensures { Reads (spec.chain cursor.old) result cursor.new }
 {
@@ -74,37 +78,45 @@ fn chain(alloc: Global, cursor: &mut Cursor<'_>) -> Result<Chain, Fault>
     links(alloc, cursor, chain)
 }
 
-// A group from behind its `(`.
-#[tactic(auto, unfolding(crate::specs::ReadPatterns::group_rest))]
-fn group_rest(alloc: Global, cursor: &mut Cursor<'_>) -> Result<Part, Fault>
-    ensures { Reads (spec.group_rest cursor.old) result cursor.new }
+/// A group of that chain.
+fn group_of(chain: Chain, cond: Option<Whole>, quant: Option<Quant>) -> Part
+    ensures { result ≡ spec.group_of chain cond quant }
 {
     let Chain {
         nodes,
         arrows,
         edges,
-    } = chain(alloc, cursor)?;
-    let cond = condition(alloc, cursor)?;
-    cursor.symbol(b")")?;
-    let quant = quantifier(cursor)?;
-    Ok(Part::Group {
+    } = chain;
+    Part::Group {
         nodes,
         arrows,
         edges,
         cond,
         quant,
-    })
+    }
+}
+
+/// A group from behind its `(`.
+#[tactic(auto, unfolding(crate::specs::Read::Patterns::group_rest))]
+fn group_rest(alloc: Global, cursor: &mut Cursor<'_>) -> Result<Part, Fault>
+    ensures { Reads (spec.group_rest cursor.old) result cursor.new }
+{
+    let chain = chain(alloc, cursor)?;
+    let cond = condition(alloc, cursor)?;
+    let (chain, cond) = cursor.closed(b")", (chain, cond))?;
+    let quant = quantifier(cursor)?;
+    Ok(group_of(chain, cond, quant))
 }
 
 /// Reads a node, or a group with its quantifier if it has one. A group begins with two `(`.
-#[tactic(auto, unfolding(crate::specs::ReadPatterns::block))]
+#[tactic(auto, unfolding(crate::specs::Read::Patterns::block))]
 pub fn block(alloc: Global, cursor: &mut Cursor<'_>) -> Result<Part, Fault>
     ensures { Reads (spec.block cursor.old) result cursor.new }
 {
-    let opening = cursor.symbol(b"(")?;
+    let at = cursor.symbol(b"(")?.from;
     if cursor.sees_symbol(b"(") {
         return group_rest(alloc, cursor);
     }
-    let node = node_rest(alloc, cursor, opening.from)?;
+    let node = node_rest(alloc, cursor, at)?;
     Ok(Part::Node(node))
 }

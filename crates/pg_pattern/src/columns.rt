@@ -1,13 +1,14 @@
 //! The columns of a query.
 ghost use Rattle.std.specs.Prelude.{◌≡◌, Option};
-ghost use Rattle.pg_phrase.specs.Reading.{Reads, OfMemory};
-ghost use Rattle.pg_pattern.specs.ReadQueries as spec;
+ghost use Rattle.pg_grammar.specs.Kit.Reading.{Reads, OfMemory};
+ghost use Rattle.pg_pattern.specs.Read as spec;
 
 use pg_ast::{ColumnItem, CountedWhole, Expr, Name, Scope};
-use pg_phrase::{Cursor, Fault, counted_whole, name};
+use pg_grammar::{Cursor, Fault, counted_whole, listed, name};
 use pg_value::List;
-use std::alloc::{AllocError, Global};
+use std::alloc::Global;
 
+/// A copy of the name of the property that the expression is.
 fn property_name(alloc: Global, expr: &Expr) -> Result<Option<Name>, Fault>
     ensures { OfMemory result (spec.property_name expr.now) }
 {
@@ -20,7 +21,7 @@ fn property_name(alloc: Global, expr: &Expr) -> Result<Option<Name>, Fault>
     }
 }
 
-// A copy of the property's name, where the expression is `name . name` and nothing else.
+/// A copy of the property's name, where the expression is `name . name` and nothing else.
 fn own_name(alloc: Global, column: &CountedWhole) -> Result<Option<Name>, Fault>
     ensures { OfMemory result (spec.own_name column.now) }
 {
@@ -30,7 +31,8 @@ fn own_name(alloc: Global, column: &CountedWhole) -> Result<Option<Name>, Fault>
     property_name(alloc, &column.whole.expr)
 }
 
-#[tactic(auto, unfolding(crate::specs::ReadQueries::title))]
+/// AS and a name.
+#[tactic(auto, unfolding(crate::specs::Read::title))]
 fn title(alloc: Global, cursor: &mut Cursor<'_>) -> Result<Name, Fault>
     ensures { Reads (spec.title cursor.old) result cursor.new }
 {
@@ -38,7 +40,8 @@ fn title(alloc: Global, cursor: &mut Cursor<'_>) -> Result<Name, Fault>
     name(alloc, cursor)
 }
 
-#[tactic(auto, unfolding(crate::specs::ReadQueries::column_name))]
+/// The name behind AS, or else its own name.
+#[tactic(auto, unfolding(crate::specs::Read::column_name))]
 fn column_name(alloc: Global, cursor: &mut Cursor<'_>, own: Option<Name>) -> Result<Name, Fault>
     ensures { Reads (spec.column_name own cursor.old) result cursor.new }
 {
@@ -53,7 +56,8 @@ fn column_name(alloc: Global, cursor: &mut Cursor<'_>, own: Option<Name>) -> Res
     }
 }
 
-#[tactic(auto, unfolding(crate::specs::ReadQueries::column))]
+/// An expression and its name.
+#[tactic(auto, unfolding(crate::specs::Read::column))]
 fn column(alloc: Global, cursor: &mut Cursor<'_>) -> Result<ColumnItem, Fault>
     ensures { Reads (spec.column cursor.old) result cursor.new }
 {
@@ -66,19 +70,10 @@ fn column(alloc: Global, cursor: &mut Cursor<'_>) -> Result<ColumnItem, Fault>
     })
 }
 
-/// Reads one or more columns, with commas between.
-#[tactic(auto, unfolding(pg_phrase::specs::Reading::turns))]
+/// Reads one or more columns in parentheses, with commas between.
+#[tactic(auto, unfolding(crate::specs::Read::columns))]
 pub fn columns(alloc: Global, cursor: &mut Cursor<'_>) -> Result<List<ColumnItem>, Fault>
     ensures { Reads (spec.columns cursor.old) result cursor.new }
 {
-    let mut found = List::new(alloc);
-    found.push(column(alloc, cursor)?)?;
-    for _turn in 0..cursor.len() {
-        if !cursor.sees_symbol(b",") {
-            break;
-        }
-        cursor.symbol(b",")?;
-        found.push(column(alloc, cursor)?)?;
-    }
-    Ok(found)
+    listed(alloc, cursor, column)
 }

@@ -14,8 +14,6 @@ mod paths;
 mod quantifiers;
 mod queries;
 mod tables;
-#[cfg(test)]
-mod tests;
 
 pub use fault::ParseFault;
 pub use queries::query;

@@ -1,18 +1,33 @@
 //! Path patterns.
-ghost use Rattle.std.specs.Prelude.{◌≡◌, [], ◌∷◌, ◌++◌};
-ghost use Rattle.pg_phrase.specs.Reading.{Reads, sees_if};
-ghost use Rattle.pg_phrase.specs.Sets.{any};
-ghost use Rattle.pg_pattern.specs.ReadPatterns as spec;
+ghost use Rattle.std.specs.Prelude.{◌≡◌, Ok};
+ghost use Rattle.pg_grammar.specs.Kit.Reading.{Reads, ReadsSurely, sees_if};
+ghost use Rattle.pg_grammar.specs.Kit.Sets.{any};
+ghost use Rattle.pg_pattern.specs.Read.Patterns as spec;
 
 use crate::blocks::block;
 use crate::edges::{edge, sees_edge};
 use crate::quantifiers::quantifier;
 use pg_ast::{Mode, Part, PathPattern, Selector};
-use pg_phrase::{Cursor, Fault};
+use pg_grammar::{Cursor, Fault, Unexpected};
 use pg_value::List;
 use std::alloc::Global;
 
-#[tactic(auto, unfolding(crate::specs::ReadPatterns::next_edge))]
+/// An edge with its quantifier.
+#[tactic(auto, unfolding(crate::specs::Read::Patterns::quantified_edge))]
+fn quantified_edge(alloc: Global, cursor: &mut Cursor<'_>) -> Result<Part, Fault>
+    ensures { Reads (spec.quantified_edge cursor.old) result cursor.new }
+{
+    let (arrow, filler) = edge(alloc, cursor)?;
+    let quant = quantifier(cursor)?;
+    Ok(Part::Edge {
+        arrow,
+        filler,
+        quant,
+    })
+}
+
+/// An edge with its quantifier, and the node or group behind it.
+#[tactic(auto, unfolding(crate::specs::Read::Patterns::next_edge))]
 fn next_edge(
     alloc: Global,
     cursor: &mut Cursor<'_>,
@@ -20,19 +35,13 @@ fn next_edge(
 ) -> Result<List<Part>, Fault>
     ensures { Reads (spec.next_edge parts cursor.old) result cursor.new }
 {
-    let (arrow, filler) = edge(alloc, cursor)?;
-    let quant = quantifier(cursor)?;
-    let block = block(alloc, cursor)?;
-    parts.push(Part::Edge {
-        arrow,
-        filler,
-        quant,
-    })?;
-    parts.push(block)?;
+    parts.push(quantified_edge(alloc, cursor)?)?;
+    parts.push(block(alloc, cursor)?)?;
     Ok(parts)
 }
 
-#[tactic(auto, unfolding(crate::specs::ReadPatterns::next_block))]
+/// What comes next of a path pattern: an edge and what stands behind it, or a node or group.
+#[tactic(auto, unfolding(crate::specs::Read::Patterns::next_block))]
 fn next_block(
     alloc: Global,
     cursor: &mut Cursor<'_>,
@@ -47,13 +56,15 @@ fn next_block(
     Ok(parts)
 }
 
+/// Whether the path pattern goes on.
 fn sees_part(cursor: &Cursor<'_>) -> bool
     ensures { result ≡ sees_if (any spec.parts_on) cursor.now }
 {
     cursor.sees_symbol(b"-") || cursor.sees_either_symbol(b"<", b"(")
 }
 
-#[tactic(auto, unfolding(pg_phrase::specs::Reading::turns))]
+/// A node or group, and what goes on with it.
+#[tactic(auto, unfolding(pg_grammar::specs::Kit::Reading::turns))]
 fn parts(alloc: Global, cursor: &mut Cursor<'_>) -> Result<List<Part>, Fault>
     ensures { Reads (spec.parts cursor.old) result cursor.new }
 {
@@ -68,70 +79,63 @@ fn parts(alloc: Global, cursor: &mut Cursor<'_>) -> Result<List<Part>, Fault>
     Ok(found)
 }
 
-#[tactic(auto, unfolding(crate::specs::ReadPatterns::selector))]
-fn selector(cursor: &mut Cursor<'_>) -> Result<Selector, Fault>
-    ensures { Reads (spec.selector cursor.old) result cursor.new }
+/// ANY, ANY SHORTEST or ALL SHORTEST, where one of them comes.
+#[tactic(auto, unfolding(crate::specs::Read::Patterns::selector))]
+fn selector(cursor: &mut Cursor<'_>) -> Result<Selector, Unexpected>
+    ensures { ReadsSurely (spec.selector cursor.old) result cursor.new }
 {
-    if cursor.sees_word(b"ANY") {
-        cursor.word(b"ANY")?;
-        if !cursor.sees_word(b"SHORTEST") {
-            return Ok(Selector::Any);
+    if cursor.eat_word(b"ANY") {
+        if cursor.eat_word(b"SHORTEST") {
+            return Ok(Selector::AnyShortest);
         }
+        return Ok(Selector::Any);
+    }
+    if cursor.eat_word(b"ALL") {
         cursor.word(b"SHORTEST")?;
-        return Ok(Selector::AnyShortest);
+        return Ok(Selector::AllShortest);
     }
-    if !cursor.sees_word(b"ALL") {
-        return Ok(Selector::Every);
-    }
-    cursor.word(b"ALL")?;
-    cursor.word(b"SHORTEST")?;
-    Ok(Selector::AllShortest)
+    Ok(Selector::Every)
 }
 
-#[tactic(auto, unfolding(crate::specs::ReadPatterns::mode))]
-fn mode(cursor: &mut Cursor<'_>) -> Result<Mode, Fault>
-    ensures { Reads (spec.mode cursor.old) result cursor.new }
+/// The word of a mode, where one comes. WALK is meant without one.
+#[tactic(auto, unfolding(crate::specs::Read::Patterns::mode))]
+fn mode(cursor: &mut Cursor<'_>) -> Mode
+    ensures { spec.mode cursor.old ≡ Ok (result, cursor.new) }
 {
-    if cursor.sees_word(b"WALK") {
-        cursor.word(b"WALK")?;
-        return Ok(Mode::Walk);
+    if cursor.eat_word(b"WALK") {
+        return Mode::Walk;
     }
-    if cursor.sees_word(b"TRAIL") {
-        cursor.word(b"TRAIL")?;
-        return Ok(Mode::Trail);
+    if cursor.eat_word(b"TRAIL") {
+        return Mode::Trail;
     }
-    if cursor.sees_word(b"ACYCLIC") {
-        cursor.word(b"ACYCLIC")?;
-        return Ok(Mode::Acyclic);
+    if cursor.eat_word(b"ACYCLIC") {
+        return Mode::Acyclic;
     }
-    if cursor.sees_word(b"SIMPLE") {
-        cursor.word(b"SIMPLE")?;
-        return Ok(Mode::Simple);
+    if cursor.eat_word(b"SIMPLE") {
+        return Mode::Simple;
     }
-    Ok(Mode::Walk)
+    Mode::Walk
 }
 
-#[tactic(auto, unfolding(crate::specs::ReadPatterns::path_word))]
-fn path_word(cursor: &mut Cursor<'_>) -> Result<(), Fault>
-    ensures { Reads (spec.path_word cursor.old) result cursor.new }
+/// PATH or PATHS, where one of them comes.
+#[tactic(auto, unfolding(crate::specs::Read::Patterns::path_word))]
+fn path_word(cursor: &mut Cursor<'_>)
+    ensures { spec.path_word cursor.old ≡ Ok (tt, cursor.new) }
 {
-    if cursor.sees_word(b"PATH") {
-        cursor.word(b"PATH")?;
-    } else if cursor.sees_word(b"PATHS") {
-        cursor.word(b"PATHS")?;
+    if !cursor.eat_word(b"PATH") {
+        cursor.eat_word(b"PATHS");
     }
-    Ok(())
 }
 
 /// Reads a path pattern.
-#[tactic(auto, unfolding(crate::specs::ReadPatterns::path_at))]
+#[tactic(auto, unfolding(crate::specs::Read::Patterns::path_at))]
 pub fn path(alloc: Global, cursor: &mut Cursor<'_>) -> Result<PathPattern, Fault>
     ensures { Reads (spec.path cursor.old) result cursor.new }
 {
     let at = cursor.place();
     let selector = selector(cursor)?;
-    let mode = mode(cursor)?;
-    path_word(cursor)?;
+    let mode = mode(cursor);
+    path_word(cursor);
     let parts = parts(alloc, cursor)?;
     Ok(PathPattern {
         selector,

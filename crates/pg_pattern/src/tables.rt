@@ -2,14 +2,14 @@
 ghost use Rattle.std.specs.Prelude.{ℕ, List, ◌≡◌, ◌<◌, length, IfOk, IfErr};
 ghost use Rattle.pg_lex.specs.declared.token.Token.{Token};
 ghost use Rattle.pg_ast.specs.declared.pattern.Query.{Query};
-ghost use Rattle.pg_ast.specs.GrammarQueries.{QueryAt};
-ghost use Rattle.pg_ast.specs.Terminals.{IsEnded};
+ghost use Rattle.pg_ast.specs.Grammar.Queries.{QueryAt};
+ghost use Rattle.pg_ast.specs.Words.Terminals.{IsEnded};
 ghost use Rattle.pg_pattern.specs.Answers.{IsFault, AnswersOnly};
 
 use crate::{ParseFault, query};
 use pg_ast::Query;
+use pg_grammar::{Cursor, Fault};
 use pg_lex::Token;
-use pg_phrase::{Cursor, Fault};
 use pg_value::List;
 use std::alloc::Global;
 

@@ -1,13 +1,6 @@
-pub mod Joined
-pub mod LineLaws
-pub mod HeaderLaws
-pub mod LayoutLaws
-pub mod TurnLaws
-pub mod PartLaws
-pub mod ItemLaws
-pub mod DraftLaws
-pub mod SplitLaws
-pub mod Runs
-pub mod Atoms
-pub mod Spans
-pub mod Afters
+-- Laws about scripts, and how the code meets its contracts.
+pub mod Texts
+pub mod Passes
+pub mod One
+pub mod Whole
+pub mod Trials

@@ -1,20 +1,11 @@
+-- Scripts: `Layout`, `Statements`, `After`, `Script`, `Whole`. Transcripts: `Text`, `Judged`, `Session`, `Legal`. The code: `Passes`.
+pub mod Layout
+pub mod Statements
+pub mod After
+pub mod Script
+pub mod Whole
+pub mod Passes
 pub mod Text
 pub mod Judged
 pub mod Session
 pub mod Legal
-pub mod Rows
-pub mod Statements
-pub mod After
-pub mod Layout
-pub mod Script
-pub mod OneCut
-pub mod OneLayout
-pub mod OneStatements
-pub mod OneReading
-pub mod OneAfter
-pub mod OneScript
-pub mod OneFault
-pub mod Spans
-pub mod Awaited
-pub mod Reading
-pub mod Drafts

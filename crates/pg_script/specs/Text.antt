@@ -152,15 +152,15 @@ end_text true = line (codes "end rolled back")
 end_text false = line (codes "end")
 
 -- a section's outcomes and its end
-abbrev pub answers_text : SectionOut → List ℕ
-answers_text s = outcomes_text 1 s.outcomes ++ end_text s.rolled_back
+abbrev pub section_text : SectionOut → List ℕ
+section_text s = outcomes_text 1 s.outcomes ++ end_text s.rolled_back
 
 abbrev pub session_text : SectionOut → List ℕ
-session_text s = line (codes "@session " ++ s.name) ++ answers_text s
+session_text s = line (codes "@session " ++ s.name) ++ section_text s
 
 -- the setup, where the script has one
 abbrev pub setup_text : Bool → SectionOut → List ℕ
-setup_text true s = line (codes "@setup") ++ answers_text s
+setup_text true s = line (codes "@setup") ++ section_text s
 setup_text false s = []
 
 abbrev pub sections_text : Bool → List SectionOut → List ℕ

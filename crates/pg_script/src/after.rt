@@ -1,20 +1,17 @@
 //! The statement AFTER, with which a session waits for another.
 
-#[cfg(test)]
-mod tests;
-
-ghost use Rattle.std.specs.Prelude.{ℕ, List, ◌≡◌, ◌≤◌, ◌↔◌, ◌-◌, ◌^◌, length, min, IsTrue, MatchOption};
-ghost use Rattle.std.specs.List.{prefix_len};
+ghost use Rattle.std.specs.Prelude.{ℕ, List, ◌≡◌, ◌↔◌, ◌-◌, ◌^◌, map, min, codes, IsTrue, MatchOption};
+ghost use Rattle.std.specs.Str.{bytes_eq};
 ghost use Rattle.pg_lex.specs.Bytes as bytes_spec;
 ghost use Rattle.pg_script.specs.After as spec;
 ghost use Rattle.pg_script.specs.After.{number_from, IsAfter};
-ghost use Rattle.pg_script.specs.Awaited.{HasAwaited, HasEnd, HasGap, HasName, HasNumber, IsRun};
+ghost use Rattle.pg_script.specs.Passes.Awaited.{HasAwaited, HasEnd, HasGap, HasName, HasNumber, IsLongestFront};
 
-use pg_lex::gap_len;
+use pg_lex::{digits_len, gap_len, is_letter, is_word_byte, word_len};
 
 /// The session that a statement AFTER names, as it is spelled, and the number of its items that are awaited. A number
 /// that is greater than 4,294,967,295 is that.
-#[derive(Clone, Copy, Debug)]
+#[derive(Clone, Copy)]
 pub struct Wait<'a> {
     pub name: &'a [u8],
     pub number: u32,
@@ -24,17 +21,18 @@ pub struct Wait<'a> {
 pub fn begins_after(bytes: &[u8]) -> bool
     ensures { result ≡ spec.begins_after bytes.now }
 {
-    match bytes {
-        [
-            b'A' | b'a',
-            b'F' | b'f',
-            b'T' | b't',
-            b'E' | b'e',
-            b'R' | b'r',
-            rest @ ..,
-        ] => { !begins_word(rest) }
-        _ => false,
+    if bytes.len() < 5 {
+        return false;
     }
+    let (word, rest) = bytes.split_at(5);
+    spells_after(word) && !begins_word(rest)
+}
+
+/// Whether the bytes are AFTER, in upper or lower case.
+fn spells_after(word: &[u8]) -> bool
+    ensures { result ≡ bytes_eq (map bytes_spec.upper word.now) (codes "AFTER") }
+{
+    word.eq_ignore_ascii_case(b"AFTER")
 }
 
 /// What the statement `AFTER name n;` awaits. None where the bytes of a statement are anything else, also where they
@@ -53,7 +51,7 @@ pub fn awaited(bytes: &[u8]) -> Option<Wait<'_>>
     })
 }
 
-// The name and the digits behind AFTER, where nothing but the `;` follows them.
+/// The name and the digits behind AFTER, where nothing but the `;` follows them.
 fn name_and_digits(bytes: &[u8]) -> Option<(&[u8], &[u8])>
     ensures { MatchOption result ((name digits : List ℕ) → HasName bytes.now name digits → ⊥) (λ found. HasName bytes.now found.0.now found.1.now) }
 {
@@ -66,7 +64,7 @@ fn name_and_digits(bytes: &[u8]) -> Option<(&[u8], &[u8])>
     Some((name, digits))
 }
 
-// The digits behind the name, where nothing but the `;` follows them.
+/// The digits behind the name, where nothing but the `;` follows them.
 fn digits_behind(bytes: &[u8]) -> Option<&[u8]>
     ensures { MatchOption result ((digits : List ℕ) → HasNumber bytes.now digits → ⊥) (λ digits. HasNumber bytes.now digits.now) }
 {
@@ -78,7 +76,7 @@ fn digits_behind(bytes: &[u8]) -> Option<&[u8]>
     Some(digits)
 }
 
-// What stands behind white space and comments, of which there must be some.
+/// What stands behind white space and comments, of which there must be some.
 fn behind_gap(bytes: &[u8]) -> Option<&[u8]>
     ensures { MatchOption result ((rest : List ℕ) → HasGap bytes.now rest → ⊥) (λ rest. HasGap bytes.now rest.now) }
 {
@@ -89,7 +87,7 @@ fn behind_gap(bytes: &[u8]) -> Option<&[u8]>
     Some(bytes.split_at(len).1)
 }
 
-// Whether nothing but the `;` stands here, behind white space and comments.
+/// Whether nothing but the `;` stands here, behind white space and comments.
 fn ends(bytes: &[u8]) -> bool
     ensures { IsTrue result ↔ HasEnd bytes.now }
 {
@@ -97,32 +95,21 @@ fn ends(bytes: &[u8]) -> bool
     rest == b";".as_slice()
 }
 
+/// The word in front, and what stands behind it.
 fn word_front(bytes: &[u8]) -> (&[u8], &[u8])
-    ensures { IsRun bytes_spec.is_word_byte bytes.now result.0.now result.1.now }
+    ensures { IsLongestFront bytes_spec.is_word_byte bytes.now result.0.now result.1.now }
 {
     bytes.split_at(word_len(bytes))
 }
 
-fn word_len(bytes: &[u8]) -> usize
-    ensures value { result ≡ prefix_len bytes_spec.is_word_byte bytes.now }
-    ensures within { result ≤ length bytes.now }
-{
-    bytes.iter().take_while(|b| is_word_byte(**b)).count()
-}
-
+/// The digits in front, and what stands behind them.
 fn digits_front(bytes: &[u8]) -> (&[u8], &[u8])
-    ensures { IsRun bytes_spec.is_digit bytes.now result.0.now result.1.now }
+    ensures { IsLongestFront bytes_spec.is_digit bytes.now result.0.now result.1.now }
 {
     bytes.split_at(digits_len(bytes))
 }
 
-fn digits_len(bytes: &[u8]) -> usize
-    ensures value { result ≡ prefix_len bytes_spec.is_digit bytes.now }
-    ensures within { result ≤ length bytes.now }
-{
-    bytes.iter().take_while(|b| is_digit(**b)).count()
-}
-
+/// Whether a letter or `_` stands in front.
 fn begins_name(bytes: &[u8]) -> bool
     ensures { result ≡ bytes_spec.starts bytes_spec.is_letter bytes.now }
 {
@@ -132,6 +119,7 @@ fn begins_name(bytes: &[u8]) -> bool
     }
 }
 
+/// Whether a byte of words stands in front.
 fn begins_word(bytes: &[u8]) -> bool
     ensures { result ≡ bytes_spec.starts bytes_spec.is_word_byte bytes.now }
 {
@@ -141,25 +129,7 @@ fn begins_word(bytes: &[u8]) -> bool
     }
 }
 
-fn is_letter(byte: u8) -> bool
-    ensures { result ≡ bytes_spec.is_letter byte }
-{
-    matches!(byte, b'A'..=b'Z' | b'a'..=b'z' | b'_')
-}
-
-fn is_digit(byte: u8) -> bool
-    ensures { result ≡ bytes_spec.is_digit byte }
-{
-    byte.is_ascii_digit()
-}
-
-fn is_word_byte(byte: u8) -> bool
-    ensures { result ≡ bytes_spec.is_word_byte byte }
-{
-    is_letter(byte) || is_digit(byte)
-}
-
-// The number that decimal digits stand for, or 4,294,967,295 where it is greater.
+/// The number that decimal digits stand for, or 4,294,967,295 where it is greater.
 fn number_of(digits: &[u8]) -> u32
     ensures { result ≡ min (2 ^ 32 - 1) (number_from 0 digits.now) }
 {

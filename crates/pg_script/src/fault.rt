@@ -27,7 +27,7 @@ pub enum ScriptKind {
 ///
 /// Too many bytes come before all other faults, and bytes that are no text before those of a script. Of these the first
 /// line with a fault decides, and on one line the order of the kinds.
-#[derive(Clone, Copy, Debug, PartialEq, Eq)]
+#[derive(Clone, Copy)]
 pub enum ScriptFault {
     Bad { line: u32, kind: ScriptKind },
     Memory,

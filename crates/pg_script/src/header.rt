@@ -1,12 +1,15 @@
+//! Section lines: `@setup`, `@session NAME` and `@order`.
 ghost use Rattle.std.specs.Prelude.{◌≡◌, ◌≤◌, true, length};
 ghost use Rattle.std.specs.List.{list_all, prefix_len};
 ghost use Rattle.pg_script.specs.Layout.{IsHeader};
 ghost use Rattle.pg_script.specs.Layout as layout;
-ghost use Rattle.pg_script.specs.Reading.{FormFits, header_of};
-ghost use Rattle.pg_script.specs.Reading as spec;
+ghost use Rattle.pg_script.specs.Passes.{FormFits, header_of};
+ghost use Rattle.pg_script.specs.Passes as spec;
 ghost use Rattle.pg_lex.specs.Bytes as bytes_spec;
 
-// What a section line says: one of the three forms, where a session's name has so many bytes, or none of them.
+use pg_lex::is_white;
+
+/// What a section line says: one of the three forms, where a session's name has so many bytes, or none of them.
 #[derive(Clone, Copy)]
 pub enum Form {
     Setup,
@@ -15,19 +18,14 @@ pub enum Form {
     Other,
 }
 
-pub fn is_white(byte: u8) -> bool
-    ensures { result ≡ bytes_spec.is_white byte }
-{
-    matches!(byte, b' ' | b'\t' | b'\n' | b'\r')
-}
-
+/// Whether the bytes are white space alone.
 fn is_blank(bytes: &[u8]) -> bool
     ensures { result ≡ list_all bytes_spec.is_white bytes.now }
 {
     bytes.iter().all(|b| is_white(*b))
 }
 
-// Whether the line is these words with white space behind them.
+/// Whether the line is these words with white space behind them.
 fn says(line: &[u8], words: &[u8]) -> bool
     ensures { result ≡ spec.says words.now line.now }
 {
@@ -38,12 +36,14 @@ fn says(line: &[u8], words: &[u8]) -> bool
     front == words && is_blank(back)
 }
 
+/// Whether a session's name may have the byte.
 fn is_name_byte(byte: u8) -> bool
     ensures { result ≡ layout.is_name_byte byte }
 {
     matches!(byte, b'a'..=b'z' | b'0'..=b'9' | b'_')
 }
 
+/// How many bytes of names stand in front.
 fn name_len(bytes: &[u8]) -> usize
     ensures value { result ≡ prefix_len layout.is_name_byte bytes.now }
     ensures within { result ≤ length bytes.now }
@@ -51,7 +51,7 @@ fn name_len(bytes: &[u8]) -> usize
     bytes.iter().take_while(|b| is_name_byte(**b)).count()
 }
 
-// Whether name bytes are a session's name.
+/// Whether name bytes are a session's name.
 fn is_name(name: &[u8]) -> bool
     requires { list_all layout.is_name_byte name.now ≡ true }
     ensures { result ≡ spec.is_name name.now }
@@ -62,7 +62,7 @@ fn is_name(name: &[u8]) -> bool
     }
 }
 
-// Whether a session's name stands in front, with white space behind it.
+/// Whether a session's name stands in front, with white space behind it.
 fn says_name(bytes: &[u8]) -> bool
     ensures { result ≡ spec.says_name bytes.now }
 {
@@ -70,6 +70,7 @@ fn says_name(bytes: &[u8]) -> bool
     is_name(name) && is_blank(back)
 }
 
+/// Whether the line is `@session`, a name and white space.
 fn says_session(line: &[u8]) -> bool
     ensures { result ≡ spec.says_session line.now }
 {

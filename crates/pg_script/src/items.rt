@@ -1,9 +1,10 @@
+//! The items of a section: its statements, and what an AFTER among them waits for.
 ghost use Rattle.std.specs.Prelude.{◌≡◌, ◌≤◌, length, map, IfOk, IfErr, OnOk, MatchOption};
 ghost use Rattle.std.specs.List.{AllZip};
 ghost use Rattle.pg_script.specs.Script.{most_bytes};
-ghost use Rattle.pg_script.specs.Reading.{part_of, parts_of, statement_at};
-ghost use Rattle.pg_script.specs.Drafts as drafts;
-ghost use Rattle.pg_script.specs.Drafts.{find_session, session_match, IsWaitItem, RiseSomewhere, IsBadAfter, IsGoodItem, IsFair, FaultOf, HasBadAfter, HasBadStatement};
+ghost use Rattle.pg_script.specs.Passes.{part_of, parts_of, statement_at};
+ghost use Rattle.pg_script.specs.Passes.Drafts as drafts;
+ghost use Rattle.pg_script.specs.Passes.Drafts.{find_session, session_match, IsWaitItem, RiseSomewhere, IsBadAfter, IsGoodItem, IsFair, FaultOf, HasBadAfter, HasBadStatement};
 
 use crate::after::{Wait, awaited, begins_after};
 use crate::lines::{bad, cut, line_at};
@@ -13,10 +14,10 @@ use crate::{Item, ScriptFault, ScriptKind};
 use pg_value::List;
 use std::alloc::Global;
 
-// A section has at most so many statements.
+/// A section has at most so many statements.
 const MOST_STATEMENTS: usize = 100_000;
 
-// Whether a section is a session, and whether it has this name and so many statements.
+/// Whether a section is a session, and whether it has this name and so many statements.
 fn matches_session(bytes: &[u8], part: &PartSpan, name: &[u8], least: usize) -> Option<bool>
     ensures { result ≡ session_match name.now least (part_of bytes.now part.now) }
 {
@@ -29,7 +30,7 @@ fn matches_session(bytes: &[u8], part: &PartSpan, name: &[u8], least: usize) -> 
     }
 }
 
-// The number, from 1, of the first session that has this name and so many statements.
+/// The number, from 1, of the first session that has this name and so many statements.
 pub fn session_of(bytes: &[u8], before: &[PartSpan], name: &[u8], least: usize) -> Option<usize>
     ensures { result ≡ find_session name.now least 1 (parts_of bytes.now before.now) }
 {
@@ -44,7 +45,7 @@ pub fn session_of(bytes: &[u8], before: &[PartSpan], name: &[u8], least: usize) 
     None
 }
 
-// The item that waits so, if an earlier session has the name and so many statements.
+/// The item that waits so, if an earlier session has the name and so many statements.
 fn wait_item(bytes: &[u8], before: &[PartSpan], wait: Wait<'_>) -> Option<Item>
     requires { IsFair (parts_of bytes.now before.now) }
     ensures { IsWaitItem (parts_of bytes.now before.now) wait.entry.name.now wait.entry.number result }
@@ -52,16 +53,14 @@ fn wait_item(bytes: &[u8], before: &[PartSpan], wait: Wait<'_>) -> Option<Item>
     if wait.number == 0 {
         return None;
     }
-    match session_of(bytes, before, wait.name, wait.number as usize) {
-        Some(section) => Some(Item::After {
-            section: section as u32,
-            n: wait.number,
-        }),
-        None => None,
-    }
+    let section = session_of(bytes, before, wait.name, wait.number as usize)?;
+    Some(Item::After {
+        section: section as u32,
+        n: wait.number,
+    })
 }
 
-// The item of a statement, or None where it is an AFTER that may not stand there.
+/// The item of a statement, or None where it is an AFTER that may not stand there.
 fn item(bytes: &[u8], before: &[PartSpan], in_session: bool, span: Span) -> Option<Item>
     requires { IsFair (parts_of bytes.now before.now) }
     ensures { MatchOption result (IsBadAfter (parts_of bytes.now before.now) in_session (statement_at bytes.now span)) (IsGoodItem (parts_of bytes.now before.now) in_session (statement_at bytes.now span)) }
@@ -76,13 +75,11 @@ fn item(bytes: &[u8], before: &[PartSpan], in_session: bool, span: Span) -> Opti
     if !in_session {
         return None;
     }
-    match awaited(statement) {
-        Some(wait) => wait_item(bytes, before, wait),
-        None => None,
-    }
+    let wait = awaited(statement)?;
+    wait_item(bytes, before, wait)
 }
 
-// The items of statements, or the first AFTER among them that may not stand there.
+/// The items of statements, or the first AFTER among them that may not stand there.
 fn each_item(
     alloc: Global,
     bytes: &[u8],
@@ -109,7 +106,7 @@ fn each_item(
     Ok(out)
 }
 
-// The fault, or the 100,001st statement where that is on the line `limit` and the fault is on no earlier one.
+/// The fault, or the 100,001st statement where that is on the line `limit` and the fault is on no earlier one.
 fn earlier(fault: ScriptFault, limit: u32) -> ScriptFault
     ensures { result ≡ drafts.earlier fault limit }
 {
@@ -128,7 +125,7 @@ fn earlier(fault: ScriptFault, limit: u32) -> ScriptFault
     }
 }
 
-// The items of a section's statements, or their first fault.
+/// The items of a section's statements, or their first fault.
 pub fn items(
     alloc: Global,
     bytes: &[u8],

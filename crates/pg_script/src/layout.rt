@@ -1,10 +1,12 @@
-ghost use Rattle.std.specs.Prelude.{◌≡◌, ◌≤◌, true, not, ◌==◌, length};
-ghost use Rattle.std.specs.List.{prefix_len};
+//! Sections by their places: where the next section line begins, and where a section ends.
+ghost use Rattle.std.specs.Prelude.{◌≡◌, ◌≤◌, true, length};
 ghost use Rattle.pg_lex.specs.Bytes.{starts_with};
-ghost use Rattle.pg_script.specs.Reading.{IsFree, IsBlockSpan};
-ghost use Rattle.pg_script.specs.Reading as spec;
+ghost use Rattle.pg_script.specs.Passes.{IsFree, IsBlockSpan};
+ghost use Rattle.pg_script.specs.Passes as spec;
 
-// A section in front of some bytes: the length of its line without the line feed, and from where to where its text goes.
+use crate::lines::len_before;
+
+/// A section in front of some bytes: the length of its line without the line feed, and from where to where its text goes.
 #[derive(Clone, Copy)]
 pub struct BlockSpan {
     pub line: usize,
@@ -12,6 +14,7 @@ pub struct BlockSpan {
     pub to: usize,
 }
 
+/// The length of the text in front of the next line that begins with `@`.
 fn free_len(bytes: &[u8]) -> usize
     ensures value { result ≡ spec.section_at true bytes.now }
     ensures within { result ≤ length bytes.now }
@@ -34,19 +37,12 @@ pub fn next_section(bytes: &[u8]) -> usize
     free_len(bytes)
 }
 
-fn line_len(bytes: &[u8]) -> usize
-    ensures value { result ≡ prefix_len (λ b. not (b == 10)) bytes.now }
-    ensures within { result ≤ length bytes.now }
-{
-    bytes.iter().take_while(|b| **b != b'\n').count()
-}
-
 /// The section in front of the bytes, which begin with its `@`.
 pub fn block(bytes: &[u8]) -> BlockSpan
     requires { starts_with 64 bytes.now ≡ true }
     ensures { IsBlockSpan bytes.now result }
 {
-    let line = line_len(bytes);
+    let line = len_before(b'\n', bytes);
     if line == bytes.len() {
         return BlockSpan {
             line,

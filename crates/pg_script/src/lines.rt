@@ -1,13 +1,15 @@
-ghost use Rattle.std.specs.Prelude.{◌≡◌, ◌≤◌, ◌==◌, length, take, filter};
+//! Lines, and the bytes between two places.
+ghost use Rattle.std.specs.Prelude.{◌≡◌, ◌≤◌, not, ◌==◌, length, take, filter};
+ghost use Rattle.std.specs.List.{prefix_len};
 ghost use Rattle.pg_script.specs.declared.fault.ScriptFault.TheVariants.{Bad};
 ghost use Rattle.pg_script.specs.Layout as spec;
 ghost use Rattle.pg_script.specs.Script.{most_bytes};
-ghost use Rattle.pg_script.specs.Reading as reading;
+ghost use Rattle.pg_script.specs.Passes as reading;
 
 use crate::statements::Span;
 use crate::{ScriptFault, ScriptKind};
 
-// The bytes before a place.
+/// The bytes before a place.
 fn front(bytes: &[u8], place: usize) -> &[u8]
     ensures { result.now ≡ take place bytes.now }
 {
@@ -15,7 +17,7 @@ fn front(bytes: &[u8], place: usize) -> &[u8]
     front
 }
 
-// How many line feeds there are.
+/// How many line feeds there are.
 fn feeds(bytes: &[u8]) -> usize
     ensures value { result ≡ length (filter (λ b. b == 10) bytes.now) }
     ensures within { result ≤ length bytes.now }
@@ -23,7 +25,7 @@ fn feeds(bytes: &[u8]) -> usize
     bytes.iter().filter(|b| **b == b'\n').count()
 }
 
-// The number, from 1, of the line in which a place stands.
+/// The number, from 1, of the line in which a place stands.
 pub fn line_at(bytes: &[u8], place: usize) -> u32
     requires { length bytes.now ≤ most_bytes }
     ensures { result ≡ spec.line_at bytes.now place }
@@ -31,7 +33,7 @@ pub fn line_at(bytes: &[u8], place: usize) -> u32
     feeds(front(bytes, place)) as u32 + 1
 }
 
-// The fault of that kind in the line of a place.
+/// The fault of that kind in the line of a place.
 pub fn bad(bytes: &[u8], place: usize, kind: ScriptKind) -> ScriptFault
     requires { length bytes.now ≤ most_bytes }
     ensures { result ≡ Bad (spec.line_at bytes.now place) kind }
@@ -42,7 +44,7 @@ pub fn bad(bytes: &[u8], place: usize, kind: ScriptKind) -> ScriptFault
     }
 }
 
-// The bytes of a span.
+/// The bytes of a span.
 pub fn cut(bytes: &[u8], span: Span) -> &[u8]
     ensures { result.now ≡ reading.cut bytes.now span }
 {
@@ -53,11 +55,19 @@ pub fn cut(bytes: &[u8], span: Span) -> &[u8]
     front
 }
 
-// What stands between two places.
+/// What stands between two places.
 pub fn between(bytes: &[u8], from: usize, to: usize) -> &[u8]
     requires low { from ≤ to }
     requires high { to ≤ length bytes.now }
     ensures { result.now ≡ reading.text_at bytes.now from to }
 {
     &bytes[from..to]
+}
+
+/// How many bytes stand before the first one that is this.
+pub fn len_before(byte: u8, bytes: &[u8]) -> usize
+    ensures value { result ≡ prefix_len (λ b. not (b == byte)) bytes.now }
+    ensures within { result ≤ length bytes.now }
+{
+    bytes.iter().take_while(|b| **b != byte).count()
 }

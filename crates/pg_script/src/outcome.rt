@@ -1,7 +1,11 @@
+//! How the items of a section come out, and why a statement is refused.
+ghost use Rattle.std.specs.Prelude.{◌≡◌};
+ghost use Rattle.pg_script.specs.Text as spec;
+
 use pg_value::{Key, List, Row, Text};
 
 /// Why a statement was refused at a byte of the script, before it read anything.
-#[derive(Clone, Copy, Debug, PartialEq, Eq)]
+#[derive(Clone, Copy)]
 pub enum FaultKind {
     Syntax,
     NameTaken,
@@ -29,8 +33,41 @@ pub enum FaultKind {
     NotYet,
 }
 
+impl FaultKind {
+    /// What the kind is called in a transcript.
+    pub fn word(self) -> &'static str
+        ensures { result.now ≡ spec.fault_word self }
+    {
+        match self {
+            FaultKind::Syntax => "Syntax",
+            FaultKind::NameTaken => "NameTaken",
+            FaultKind::NoTable => "NoTable",
+            FaultKind::NoColumn => "NoColumn",
+            FaultKind::KeyMismatch => "KeyMismatch",
+            FaultKind::LabelMismatch => "LabelMismatch",
+            FaultKind::TypeMismatch => "TypeMismatch",
+            FaultKind::Limit => "Limit",
+            FaultKind::ColumnTwice => "ColumnTwice",
+            FaultKind::Count => "Count",
+            FaultKind::KeyUpdate => "KeyUpdate",
+            FaultKind::Types => "Types",
+            FaultKind::Wide => "Wide",
+            FaultKind::NoGraph => "NoGraph",
+            FaultKind::NoLabel => "NoLabel",
+            FaultKind::NoProperty => "NoProperty",
+            FaultKind::Unbounded => "Unbounded",
+            FaultKind::Bounds => "Bounds",
+            FaultKind::BadVariable => "BadVariable",
+            FaultKind::GroupUse => "GroupUse",
+            FaultKind::DefinitionInSession => "DefinitionInSession",
+            FaultKind::DefinitionInTransaction => "DefinitionInTransaction",
+            FaultKind::NotYet => "NotYet",
+        }
+    }
+}
+
 /// Why a row of a change was refused at one of its columns.
-#[derive(Clone, Copy, Debug, PartialEq, Eq)]
+#[derive(Clone, Copy)]
 pub enum ColumnFault {
     NullKey,
     NullNotAllowed,
@@ -38,9 +75,23 @@ pub enum ColumnFault {
     TooLong,
 }
 
+impl ColumnFault {
+    /// What the kind is called in a transcript.
+    pub fn word(self) -> &'static str
+        ensures { result.now ≡ spec.column_fault_word self }
+    {
+        match self {
+            ColumnFault::NullKey => "NullKey",
+            ColumnFault::NullNotAllowed => "NullNotAllowed",
+            ColumnFault::Range => "Range",
+            ColumnFault::TooLong => "TooLong",
+        }
+    }
+}
+
 /// How an item of a section came out. `at` is a version, which is a number of commits, `from` the version that a
 /// transaction or a statement read, and `row` counts a statement's rows from 1.
-#[derive(Debug, Drop)]
+#[derive(Drop)]
 pub enum Outcome {
     /// A table or a graph was defined, when the log had `at` commits.
     Defined {

@@ -1,8 +1,9 @@
+//! The sections of an input, each with its statements or its words.
 ghost use Rattle.std.specs.Prelude.{◌≡◌, ◌-◌, ◌≤◌, true, length, map, drop, IfOk};
 ghost use Rattle.pg_lex.specs.Bytes.{starts_with};
 ghost use Rattle.pg_script.specs.Script.{most_bytes};
 ghost use Rattle.pg_script.specs.Statements.{HasStatements};
-ghost use Rattle.pg_script.specs.Reading.{FormFits, IsContent, IsFree, IsPartSpan, IsReading, statement_at, text_at};
+ghost use Rattle.pg_script.specs.Passes.{FormFits, IsContent, IsFree, IsPartSpan, HasPartSpans, statement_at, text_at};
 
 use crate::header::{Form, header};
 use crate::layout::block;
@@ -12,7 +13,7 @@ use crate::turns::turns;
 use pg_value::List;
 use std::alloc::{AllocError, Global};
 
-// What a section has, by its line: the statements of its text, or the words of the order.
+/// What a section has, by its line: the statements of its text, or the words of the order.
 #[derive(Drop)]
 pub enum Content {
     Setup(List<Span>),
@@ -21,7 +22,7 @@ pub enum Content {
     Other,
 }
 
-// A section of the input: where its line begins, where the next one begins or the input ends, and what it has.
+/// A section of the input: where its line begins, where the next one begins or the input ends, and what it has.
 #[derive(Drop)]
 pub struct PartSpan {
     pub at: u32,
@@ -29,7 +30,7 @@ pub struct PartSpan {
     pub content: Content,
 }
 
-// The statements between two places.
+/// The statements between two places.
 fn statements_between(
     alloc: Global,
     bytes: &[u8],
@@ -44,7 +45,7 @@ fn statements_between(
     statements(alloc, between(bytes, from, to), from as u32)
 }
 
-// What a section has whose line, of that form, begins at a place, and whose text stands between two others.
+/// What a section has whose line, of that form, begins at a place, and whose text stands between two others.
 fn read_content(
     alloc: Global,
     bytes: &[u8],
@@ -75,7 +76,7 @@ fn read_content(
     }
 }
 
-// The section whose line begins at a place.
+/// The section whose line begins at a place.
 fn read_part(alloc: Global, bytes: &[u8], at: usize) -> Result<PartSpan, AllocError>
     requires short { length bytes.now ≤ most_bytes }
     requires within { at ≤ length bytes.now }
@@ -101,7 +102,7 @@ pub fn read(alloc: Global, bytes: &[u8], head: usize) -> Result<List<PartSpan>, 
     requires short { length bytes.now ≤ most_bytes }
     requires within { head ≤ length bytes.now }
     requires free { IsFree head bytes.now }
-    ensures { IfOk result (IsReading bytes.now head) }
+    ensures { IfOk result (HasPartSpans bytes.now head) }
 {
     let mut out = List::new(alloc);
     let mut at = head;

@@ -2,95 +2,115 @@
 
 mod log;
 mod outcome;
-#[cfg(test)]
-mod tests;
 mod words;
 
 ghost use Rattle.std.specs.Prelude.{◌≡◌, ◌++◌, IfOk, OnOk};
 ghost use Rattle.std.specs.List.{flat_map};
-ghost use Rattle.pg_script.specs.Text.{answers_text, end_text, peak_text, session_text, sections_text, setup_text, text_of};
+ghost use Rattle.pg_script.specs.Text.{section_text, end_text, peak_text, session_text, sections_text, setup_text, text_of};
 
 use crate::{SectionOut, Transcript};
-use log::push_log;
-use outcome::push_outcomes;
 use pg_value::Text;
 use std::alloc::{AllocError, Global};
+use std::marker::Model;
+
+/// The text of a transcript as far as it is printed, and the allocator that its numbers take.
+#[derive(Drop)]
+pub struct Printer {
+    alloc: Global,
+    text: Text,
+}
+
+impl Model for Printer {
+    ghost use Rattle.std.specs.Prelude.{List, ℕ};
+
+    ghost Value = { List ℕ };
+
+    ghost view = { λ p. p.text };
+}
 
 /// The text of a transcript: its sections, its log, its peak and `@end`, each line ending with a line feed. Only want of
 /// memory refuses it.
 pub fn print(alloc: Global, transcript: &Transcript) -> Result<Text, AllocError>
     ensures { IfOk result (λ text. text ≡ text_of transcript.now) }
 {
-    let mut out = Text::new(alloc);
-    push_sections(
+    let mut printer = Printer {
         alloc,
-        &mut out,
-        transcript.has_setup,
-        transcript.sections.as_slice(),
-    )?;
-    push_log(alloc, &mut out, transcript)?;
-    push_peak(alloc, &mut out, &transcript.peak)?;
-    out.push_str("@end\n")?;
-    Ok(out)
+        text: Text::new(alloc),
+    };
+    printer.push_sections(transcript.has_setup, transcript.sections.as_slice())?;
+    printer.push_log(transcript)?;
+    printer.push_peak(&transcript.peak)?;
+    printer.text.push_str("@end\n")?;
+    let Printer { alloc: _, text } = printer;
+    Ok(text)
 }
 
-fn push_sections(
-    alloc: Global,
-    out: &mut Text,
-    has_setup: bool,
-    sections: &[SectionOut],
-) -> Result<(), AllocError>
-    ensures { OnOk result (out.new ≡ out.old ++ sections_text has_setup sections.now) }
-{
-    match sections {
-        [] => Ok(()),
-        [setup, sessions @ ..] => {
-            push_setup(alloc, out, has_setup, setup)?;
-            push_sessions(alloc, out, sessions)
+impl Printer {
+    /// Appends the setup, where the script has one, and the sessions.
+    fn push_sections(&mut self, has_setup: bool, sections: &[SectionOut]) -> Result<(), AllocError>
+        ensures { OnOk result (self.new ≡ self.old ++ sections_text has_setup sections.now) }
+    {
+        match sections {
+            [] => Ok(()),
+            [setup, sessions @ ..] => {
+                self.push_setup(has_setup, setup)?;
+                self.push_sessions(sessions)
+            }
         }
     }
-}
 
-fn push_setup(
-    alloc: Global,
-    out: &mut Text,
-    has_setup: bool,
-    setup: &SectionOut,
-) -> Result<(), AllocError>
-    ensures { OnOk result (out.new ≡ out.old ++ setup_text has_setup setup.now) }
-{
-    if !has_setup {
-        return Ok(());
+    /// Appends the setup, where the script has one.
+    fn push_setup(&mut self, has_setup: bool, setup: &SectionOut) -> Result<(), AllocError>
+        ensures { OnOk result (self.new ≡ self.old ++ setup_text has_setup setup.now) }
+    {
+        if !has_setup {
+            return Ok(());
+        }
+        self.text.push_str("@setup\n")?;
+        self.push_section(setup)
     }
-    out.push_str("@setup\n")?;
-    push_answers(alloc, out, setup)
-}
 
-fn push_sessions(alloc: Global, out: &mut Text, sessions: &[SectionOut]) -> Result<(), AllocError>
-    ensures { OnOk result (out.new ≡ out.old ++ flat_map session_text sessions.now) }
-{
-    for session in sessions {
-        push_session(alloc, out, session)?;
+    /// Appends each session.
+    fn push_sessions(&mut self, sessions: &[SectionOut]) -> Result<(), AllocError>
+        ensures { OnOk result (self.new ≡ self.old ++ flat_map session_text sessions.now) }
+    {
+        for session in sessions {
+            self.push_session(session)?;
+        }
+        Ok(())
     }
-    Ok(())
+
+    /// Appends `@session NAME` and how its items came out.
+    fn push_session(&mut self, session: &SectionOut) -> Result<(), AllocError>
+        ensures { OnOk result (self.new ≡ self.old ++ session_text session.now) }
+    {
+        self.text.push_str("@session ")?;
+        self.text.push_str(session.name.as_str())?;
+        self.text.push_str("\n")?;
+        self.push_section(session)
+    }
+
+    /// Appends a section's outcomes and its end.
+    fn push_section(&mut self, section: &SectionOut) -> Result<(), AllocError>
+        ensures { OnOk result (self.new ≡ self.old ++ section_text section.now) }
+    {
+        self.push_outcomes(section.outcomes.as_slice())?;
+        self.text.push_str(end_line(section.rolled_back))
+    }
+
+    /// Appends `@peak kept V pins P`.
+    fn push_peak(&mut self, peak: &(u64, u64)) -> Result<(), AllocError>
+        ensures { OnOk result (self.new ≡ self.old ++ peak_text peak.now) }
+    {
+        self.text.push_str("@peak kept ")?;
+        self.text.push_number(self.alloc, peak.0)?;
+        self.text.push_str(" pins ")?;
+        self.text.push_number(self.alloc, peak.1)?;
+        self.text.push_str("\n")
+    }
 }
 
-fn push_session(alloc: Global, out: &mut Text, session: &SectionOut) -> Result<(), AllocError>
-    ensures { OnOk result (out.new ≡ out.old ++ session_text session.now) }
-{
-    out.push_str("@session ")?;
-    out.push_str(session.name.as_str())?;
-    out.push_str("\n")?;
-    push_answers(alloc, out, session)
-}
-
-fn push_answers(alloc: Global, out: &mut Text, section: &SectionOut) -> Result<(), AllocError>
-    ensures { OnOk result (out.new ≡ out.old ++ answers_text section.now) }
-{
-    push_outcomes(alloc, out, section.outcomes.as_slice())?;
-    out.push_str(end_line(section.rolled_back))
-}
-
+/// The line behind the outcomes of a section.
 fn end_line(rolled_back: bool) -> &'static str
     ensures { result.now ≡ end_text rolled_back }
 {
@@ -99,14 +119,4 @@ fn end_line(rolled_back: bool) -> &'static str
     } else {
         "end\n"
     }
-}
-
-fn push_peak(alloc: Global, out: &mut Text, peak: &(u64, u64)) -> Result<(), AllocError>
-    ensures { OnOk result (out.new ≡ out.old ++ peak_text peak.now) }
-{
-    out.push_str("@peak kept ")?;
-    out.push_number(alloc, peak.0)?;
-    out.push_str(" pins ")?;
-    out.push_number(alloc, peak.1)?;
-    out.push_str("\n")
 }

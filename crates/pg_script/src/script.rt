@@ -1,7 +1,8 @@
+//! Scripts: sections of items, and the order of their turns.
 use pg_value::{List, Text};
 
 /// What a section does next.
-#[derive(Clone, Copy, Debug, PartialEq, Eq)]
+#[derive(Clone, Copy)]
 pub enum Item {
     /// The statement of the script's bytes from `from` up to `to`, its `;` included where it has one.
     Sql { from: u32, to: u32 },
@@ -10,7 +11,7 @@ pub enum Item {
 }
 
 /// A section of a script: its name, and its items in order. The setup's name is `setup`.
-#[derive(Debug, Drop)]
+#[derive(Drop)]
 pub struct Section {
     pub name: Text,
     pub items: List<Item>,
@@ -18,7 +19,7 @@ pub struct Section {
 
 /// A script: its text, the setup as section 0 (without items where none stands), the sessions as sections from 1 in file
 /// order, and the sessions of its `@order`, one for each turn.
-#[derive(Debug, Drop)]
+#[derive(Drop)]
 pub struct Script {
     pub text: Text,
     pub has_setup: bool,

@@ -1,11 +1,9 @@
-#[cfg(test)]
-mod tests;
-
+//! The script of an input, or its first fault.
 ghost use Rattle.std.specs.Prelude.{◌≡◌, ◌≤◌, [], length, IfOk, IfErr, MatchOption, MatchResult};
 ghost use Rattle.pg_lex.specs.Tokens.{Gap};
 ghost use Rattle.pg_script.specs.Script.{most_bytes, IsScript, IsNoScript};
-ghost use Rattle.pg_script.specs.Reading.{IsReading};
-ghost use Rattle.pg_script.specs.Drafts.{IsEarly, IsSplit, SplitFault, IsMade};
+ghost use Rattle.pg_script.specs.Passes.{HasPartSpans};
+ghost use Rattle.pg_script.specs.Passes.Drafts.{IsEarly, IsSplit, SplitFault, IsMade};
 
 use crate::draft::{Draft, make_draft};
 use crate::layout::next_section;
@@ -17,10 +15,10 @@ use pg_value::Text;
 use std::alloc::{AllocError, Global};
 use std::str;
 
-// A script has at most so many bytes.
+/// A script has at most so many bytes.
 const MOST_BYTES: usize = 16_777_216;
 
-// Where more than white space and comments stands, if it does.
+/// Where more than white space and comments stands, if it does.
 fn early(head: &[u8]) -> Option<usize>
     ensures { MatchOption result (Gap head.now []) (IsEarly head.now) }
 {
@@ -31,7 +29,7 @@ fn early(head: &[u8]) -> Option<usize>
     Some(len)
 }
 
-// What the sections of an input make, of which so many bytes stand in front of the first, or the first fault.
+/// What the sections of an input make, of which so many bytes stand in front of the first, or the first fault.
 fn judged(
     alloc: Global,
     bytes: &[u8],
@@ -39,7 +37,7 @@ fn judged(
     parts: &[PartSpan],
 ) -> Result<Draft, ScriptFault>
     requires short { length bytes.now ≤ most_bytes }
-    requires read { IsReading bytes.now head parts.now }
+    requires read { HasPartSpans bytes.now head parts.now }
     ensures { MatchResult result (IsSplit bytes.now) (SplitFault bytes.now) }
 {
     let (front, _) = bytes.split_at(head);
@@ -49,19 +47,17 @@ fn judged(
     }
 }
 
-// What the sections of an input make, or the first fault of the input.
+/// What the sections of an input make, or the first fault of the input.
 fn sections(alloc: Global, bytes: &[u8]) -> Result<Draft, ScriptFault>
     requires { length bytes.now ≤ most_bytes }
     ensures { MatchResult result (IsSplit bytes.now) (SplitFault bytes.now) }
 {
     let head = next_section(bytes);
-    match read(alloc, bytes, head) {
-        Ok(parts) => judged(alloc, bytes, head, parts.as_slice()),
-        Err(_) => Err(ScriptFault::Memory),
-    }
+    let parts = read(alloc, bytes, head)?;
+    judged(alloc, bytes, head, parts.as_slice())
 }
 
-// The script of a text and of what its sections make.
+/// The script of a text and of what its sections make.
 fn finish(alloc: Global, text: &str, draft: Draft) -> Result<Script, AllocError>
     ensures { IfOk result (IsMade text.now draft) }
 {
@@ -83,6 +79,7 @@ fn finish(alloc: Global, text: &str, draft: Draft) -> Result<Script, AllocError>
     })
 }
 
+/// The script of a text, or its first fault.
 fn split_text(alloc: Global, text: &str, bytes: &[u8]) -> Result<Script, ScriptFault>
     requires same { bytes.now ≡ text.now }
     requires short { length bytes.now ≤ most_bytes }

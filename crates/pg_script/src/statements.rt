@@ -1,27 +1,24 @@
 //! The statements of a section's text: where each begins and ends.
 
-#[cfg(test)]
-mod tests;
-
-ghost use Rattle.std.specs.Prelude.{◌≡◌, ◌≢◌, ◌+◌, ◌<◌, ◌≤◌, ◌^◌, ◌∷◌, ◌++◌, true, not, ◌==◌, length, take, drop, map, IfOk, OnOk};
-ghost use Rattle.std.specs.List.{prefix_len};
+ghost use Rattle.std.specs.Prelude.{◌≡◌, ◌≢◌, ◌+◌, ◌<◌, ◌≤◌, ◌^◌, ◌∷◌, ◌++◌, true, length, take, drop, map, IfOk, OnOk};
 ghost use Rattle.pg_script.specs.Statements.{IsUncut, is_quote};
-ghost use Rattle.pg_script.specs.Spans.{BeginsAtom, BeginsPiece, HasSpans, IsCut, span_of, spans_of};
+ghost use Rattle.pg_script.specs.Passes.Spans.{BeginsAtom, BeginsPiece, HasSpans, IsCut, span_of, spans_of};
 
+use crate::lines::len_before;
 use pg_lex::gap_len;
 use pg_value::List;
 use std::alloc::{AllocError, Global};
 
 /// The bytes of a statement, from one place up to another, with its `;` where it has one.
-#[derive(Clone, Copy, Debug, PartialEq, Eq)]
+#[derive(Clone, Copy)]
 pub struct Span {
     pub from: u32,
     pub to: u32,
 }
 
-// A piece between two cuts: the lengths of the white space and comments in front of it, of the rest of it, and of the `;`
-// behind it, which is 0 at the end of the text.
-#[derive(Clone, Copy, Debug, PartialEq, Eq)]
+/// A piece between two cuts: the lengths of the white space and comments in front of it, of the rest of it, and of the `;`
+/// behind it, which is 0 at the end of the text.
+#[derive(Clone, Copy)]
 struct Piece {
     gap: usize,
     body: usize,
@@ -50,7 +47,7 @@ pub fn statements(alloc: Global, text: &[u8], at: u32) -> Result<List<Span>, All
     }
 }
 
-// Appends the statement of a piece that begins at a place, if it has one.
+/// Appends the statement of a piece that begins at a place, if it has one.
 fn push_piece(out: &mut List<Span>, piece: &Piece, place: u32) -> Result<(), AllocError>
     requires { place + (piece.now.gap + piece.now.body + piece.now.end) < 2 ^ 32 }
     ensures { OnOk result (out.new ≡ out.old ++ spans_of place piece.now) }
@@ -65,7 +62,7 @@ fn push_piece(out: &mut List<Span>, piece: &Piece, place: u32) -> Result<(), All
     })
 }
 
-// The piece in front.
+/// The piece in front.
 fn front_piece(bytes: &[u8]) -> Piece
     ensures { BeginsPiece bytes.now result }
 {
@@ -76,7 +73,7 @@ fn front_piece(bytes: &[u8]) -> Piece
     Piece { gap, body, end }
 }
 
-// The length of what stands in front of the first `;` outside quotes and comments, or of all where none stands.
+/// The length of what stands in front of the first `;` outside quotes and comments, or of all where none stands.
 fn piece_len(bytes: &[u8]) -> usize
     ensures within { result ≤ length bytes.now }
     ensures uncut { IsUncut (take result bytes.now) (drop result bytes.now) }
@@ -93,7 +90,7 @@ fn piece_len(bytes: &[u8]) -> usize
     }
 }
 
-// The length of the byte, the comment or the text in quotes in front, or 0 at a `;` and at the end.
+/// The length of the byte, the comment or the text in quotes in front, or 0 at a `;` and at the end.
 fn atom_len(bytes: &[u8]) -> usize
     ensures within { result ≤ length bytes.now }
     ensures none { result ≡ 0 → IsCut bytes.now }
@@ -105,7 +102,7 @@ fn atom_len(bytes: &[u8]) -> usize
     }
 }
 
-// The length of the atom that begins with a byte, which is no `;`.
+/// The length of the atom that begins with a byte, which is no `;`.
 fn first_atom_len(first: u8, rest: &[u8]) -> usize
     requires { first ≢ 59 }
     ensures within { result ≤ length (first ∷ rest.now) }
@@ -119,7 +116,7 @@ fn first_atom_len(first: u8, rest: &[u8]) -> usize
     }
 }
 
-// The length of the text that begins with a quote, up to the next such quote or to the end.
+/// The length of the text that begins with a quote, up to the next such quote or to the end.
 fn quoted_len(quote: u8, rest: &[u8]) -> usize
     requires { is_quote quote ≡ true }
     ensures within { result ≤ length (quote ∷ rest.now) }
@@ -134,7 +131,7 @@ fn quoted_len(quote: u8, rest: &[u8]) -> usize
     }
 }
 
-// The length of the comment or the dash that begins with a dash.
+/// The length of the comment or the dash that begins with a dash.
 fn dash_len(rest: &[u8]) -> usize
     ensures within { result ≤ length (45 ∷ rest.now) }
     ensures some { 0 < result }
@@ -144,12 +141,4 @@ fn dash_len(rest: &[u8]) -> usize
         [b'-', line @ ..] => 2 + len_before(b'\n', line),
         _ => 1,
     }
-}
-
-// How many bytes stand before the first one that is this.
-fn len_before(byte: u8, bytes: &[u8]) -> usize
-    ensures value { result ≡ prefix_len (λ b. not (b == byte)) bytes.now }
-    ensures within { result ≤ length bytes.now }
-{
-    bytes.iter().take_while(|b| **b != byte).count()
 }

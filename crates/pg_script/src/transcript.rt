@@ -1,8 +1,9 @@
+//! How the sections of a script came out, and the log.
 use crate::Outcome;
 use pg_value::{Commit, List, Text};
 
-/// What a section answered: one outcome for each of its items, and whether a transaction was open at its end.
-#[derive(Debug, Drop)]
+/// How a section came out: one outcome for each of its items, and whether a transaction was open at its end.
+#[derive(Drop)]
 pub struct SectionOut {
     pub name: Text,
     pub outcomes: List<Outcome>,
@@ -11,7 +12,7 @@ pub struct SectionOut {
 
 /// What a run prints: the sections with the setup as section 0, the names of the tables by `TableNo`, the whole log, and
 /// the greatest number of kept versions with the number of pins at its first moment.
-#[derive(Debug, Drop)]
+#[derive(Drop)]
 pub struct Transcript {
     pub has_setup: bool,
     pub sections: List<SectionOut>,

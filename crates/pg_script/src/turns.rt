@@ -1,17 +1,17 @@
+//! The words of the order.
 ghost use Rattle.std.specs.Prelude.{◌≡◌, ◌-◌, ◌≤◌, length, map, take, drop, IfOk};
 ghost use Rattle.pg_script.specs.Layout.{AreTurns};
-ghost use Rattle.pg_script.specs.Reading.{turn_at};
-ghost use Rattle.pg_script.specs.Reading as spec;
+ghost use Rattle.pg_script.specs.Passes.{turn_at};
+ghost use Rattle.pg_script.specs.Passes as spec;
 ghost use Rattle.pg_script.specs.Script.{most_bytes};
 
-use crate::header::is_white;
 use crate::lines::between;
 use crate::statements::Span;
-use pg_lex::gap_len;
+use pg_lex::{gap_len, is_white};
 use pg_value::List;
 use std::alloc::{AllocError, Global};
 
-// Whether no word goes on here.
+/// Whether no word goes on here.
 fn ends_word(bytes: &[u8]) -> bool
     ensures { result ≡ spec.ends_word bytes.now }
 {
@@ -22,7 +22,7 @@ fn ends_word(bytes: &[u8]) -> bool
     }
 }
 
-// The length of the word in front.
+/// The length of the word in front.
 fn word_len(bytes: &[u8]) -> usize
     ensures value { result ≡ spec.word_len bytes.now }
     ensures within { result ≤ length bytes.now }
@@ -37,7 +37,7 @@ fn word_len(bytes: &[u8]) -> usize
     }
 }
 
-// The words of the order that stand between two places.
+/// The words of the order that stand between two places.
 pub fn turns(alloc: Global, bytes: &[u8], from: usize, to: usize) -> Result<List<Span>, AllocError>
     requires short { length bytes.now ≤ most_bytes }
     requires low { from ≤ to }

@@ -2,15 +2,15 @@
 use Rattle.std.proofs.Common.{false, List, [], ◌∷◌, ◌++◌, refl}
 use Rattle.std.specs.Prelude.{codes}
 use Rattle.pg_ast.specs.declared.statement.Statement.TheVariants as tree
-use Rattle.pg_ast.specs.Terminals.{Terminal}
-use Rattle.pg_ast.specs.Rule.{◌or◌}
-use Rattle.pg_ast.specs.GrammarDefinitions.{create_table, create_graph}
-use Rattle.pg_ast.specs.GrammarStatements as grammar
-use Rattle.pg_ast.specs.StatementWords as keyword
-use Rattle.pg_phrase.specs.Parses.{Parses, parses-give, parses-then, parses-or, parses-sized}
-use Rattle.pg_phrase.specs.TokenLaws.{parses-word, parses-symbol}
-use Rattle.pg_pattern.specs.QueryLaws.{alias_first, parses-query}
-use Rattle.pg_sql.specs.ReadStatements as parser
+use Rattle.pg_ast.specs.Words.Terminals.{Terminal}
+use Rattle.pg_ast.specs.Grammar.Rule.{◌or◌}
+use Rattle.pg_ast.specs.Grammar.Definitions.{create_table, create_graph}
+use Rattle.pg_ast.specs.Grammar as grammar
+use Rattle.pg_ast.specs.Words as keyword
+use Rattle.pg_grammar.specs.Kit.Parses.{Parses, parses-give, parses-then, parses-or, parses-sized}
+use Rattle.pg_grammar.specs.Kit.OneToken.{parses-word, parses-symbol}
+use Rattle.pg_pattern.specs.Laws.{alias_first, parses-query}
+use Rattle.pg_sql.specs.Read as parser
 use Rattle.pg_sql.proofs.PartLaws.{parses-skip, parses-unfactored}
 use Rattle.pg_sql.proofs.TableLaws.{parses-table}
 use Rattle.pg_sql.proofs.GraphLaws.{parses-graph}

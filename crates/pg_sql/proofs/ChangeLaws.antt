@@ -1,19 +1,19 @@
 -- The parsers of INSERT, UPDATE and DELETE read their rules.
 use Rattle.std.proofs.Common.{false, true, List, [], ◌∷◌, ◌++◌, refl}
 use Rattle.pg_ast.specs.declared.counted.Scope.TheVariants as scope
-use Rattle.pg_ast.specs.Terminals.{Terminal, AName}
-use Rattle.pg_ast.specs.Rule.{separated}
-use Rattle.pg_ast.specs.GrammarNames.{names}
-use Rattle.pg_ast.specs.GrammarParts.{optional}
-use Rattle.pg_ast.specs.GrammarExprs.{whole}
-use Rattle.pg_ast.specs.GrammarChanges as grammar
-use Rattle.pg_ast.specs.Words as word
-use Rattle.pg_ast.specs.StatementWords as keyword
-use Rattle.pg_phrase.specs.Parses.{Parses, parses-give, parses-then, parses-sized}
-use Rattle.pg_phrase.specs.TokenLaws.{parses-word, parses-symbol, separated-parses}
-use Rattle.pg_phrase.specs.NameLaws.{parses-name, parses-names}
-use Rattle.pg_phrase.specs.ExprLaws.{parses-whole, whole_first, whole_on}
-use Rattle.pg_sql.specs.ReadChanges as parser
+use Rattle.pg_ast.specs.Words.Terminals.{Terminal, AName}
+use Rattle.pg_ast.specs.Grammar.Rule.{separated}
+use Rattle.pg_ast.specs.Grammar.Names.{names}
+use Rattle.pg_ast.specs.Grammar.Parts.{optional}
+use Rattle.pg_ast.specs.Grammar.Exprs.{whole}
+use Rattle.pg_ast.specs.Grammar.Changes as grammar
+use Rattle.pg_ast.specs.Words.Names as word
+use Rattle.pg_ast.specs.Words as keyword
+use Rattle.pg_grammar.specs.Kit.Parses.{Parses, parses-give, parses-then, parses-sized}
+use Rattle.pg_grammar.specs.Kit.OneToken.{parses-word, parses-symbol, separated-parses}
+use Rattle.pg_grammar.specs.Laws.{parses-name, parses-names}
+use Rattle.pg_grammar.specs.Laws.Exprs.{parses-whole, whole_first, whole_on}
+use Rattle.pg_sql.specs.Read.Changes as parser
 use Rattle.pg_sql.proofs.PartLaws.{parses-optional}
 
 -- what a list of expressions goes on with

@@ -7,17 +7,17 @@ use Rattle.pg_ast.specs.declared.define.Props.TheVariants.{All, Listed}
 use Rattle.pg_ast.specs.declared.define.Labels.TheVariants.{Own, Given}
 use Rattle.pg_ast.specs.declared.define.Define.{Define}
 use Rattle.pg_ast.specs.declared.define.Define.TheVariants.{Graph}
-use Rattle.pg_ast.specs.Terminals.{Terminal, AName}
-use Rattle.pg_ast.specs.Rule.{Rule, ◌>>=◌, give, the}
-use Rattle.pg_ast.specs.GrammarNames.{name}
-use Rattle.pg_ast.specs.GrammarParts.{optional, several, listed}
-use Rattle.pg_ast.specs.GrammarDefinitions as grammar
-use Rattle.pg_ast.specs.Words as word
-use Rattle.pg_ast.specs.StatementWords as keyword
-use Rattle.pg_phrase.specs.Parses.{Parses, parses-give, parses-then, parses-or, parses-sized}
-use Rattle.pg_phrase.specs.TokenLaws.{parses-word}
-use Rattle.pg_phrase.specs.NameLaws.{parses-name, parses-names}
-use Rattle.pg_sql.specs.ReadGraphs as parser
+use Rattle.pg_ast.specs.Words.Terminals.{Terminal, AName}
+use Rattle.pg_ast.specs.Grammar.Rule.{Rule, ◌>>=◌, give, the}
+use Rattle.pg_ast.specs.Grammar.Names.{name}
+use Rattle.pg_ast.specs.Grammar.Parts.{optional, several, listed}
+use Rattle.pg_ast.specs.Grammar.Definitions as grammar
+use Rattle.pg_ast.specs.Words.Names as word
+use Rattle.pg_ast.specs.Words as keyword
+use Rattle.pg_grammar.specs.Kit.Parses.{Parses, parses-give, parses-then, parses-or, parses-sized}
+use Rattle.pg_grammar.specs.Kit.OneToken.{parses-word}
+use Rattle.pg_grammar.specs.Laws.{parses-name, parses-names}
+use Rattle.pg_sql.specs.Read.Graphs as parser
 use Rattle.pg_sql.proofs.PartLaws.{parses-optional, parses-skip, parses-several, parses-listed, parses-unfactored}
 
 -- what properties and labels begin with

@@ -1,19 +1,20 @@
 -- The parsers of what may be left out, of what may be repeated and of lists in parentheses read their rules.
 use Rattle.std.proofs.Common.{◌≡◌, ℕ, Bool, true, false, List, [], ◌∷◌, ◌++◌, Some, None, refl}
-use Rattle.pg_ast.specs.Terminals.{Terminal, W}
-use Rattle.pg_ast.specs.Rule.{Rule, Then, ◌or◌}
-use Rattle.pg_ast.specs.GrammarParts as grammar
-use Rattle.pg_ast.specs.Words as word
-use Rattle.pg_phrase.specs.Reading.{Parser}
-use Rattle.pg_phrase.specs.Sets.{any, disjoint, disjoint-none}
-use Rattle.pg_phrase.specs.Kit.{exact-same}
-use Rattle.pg_phrase.specs.More.{factored, unfactored}
-use Rattle.pg_phrase.specs.Parses.{Parses, parses-give, parses-then, parses-or, parses-loop}
-use Rattle.pg_phrase.specs.TokenLaws.{parses-word, parses-symbol, separated-parses}
-use Rattle.pg_sql.specs.ReadParts as parser
+use Rattle.pg_ast.specs.Words.Terminals.{Terminal, W}
+use Rattle.pg_ast.specs.Grammar.Rule.{Rule, Then, ◌or◌}
+use Rattle.pg_ast.specs.Grammar.Parts as grammar
+use Rattle.pg_ast.specs.Words.Names as word
+use Rattle.pg_grammar.specs.Kit.Reading.{Parser}
+use Rattle.pg_grammar.specs.Kit.Reading as kit
+use Rattle.pg_grammar.specs.Kit.Sets.{any, disjoint, disjoint-none}
+use Rattle.pg_grammar.specs.Kit.{exact-same}
+use Rattle.pg_grammar.specs.Kit.Optional.{factored, unfactored}
+use Rattle.pg_grammar.specs.Kit.Parses.{Parses, parses-give, parses-then, parses-or, parses-loop}
+use Rattle.pg_grammar.specs.Kit.OneToken.{parses-word, parses-symbol, separated-parses}
+use Rattle.pg_sql.specs.Read.Parts as parser
 
 pub parses-optional : {A : Type 0} {P : Rule A} {p : Parser A} {first : Terminal} {e : List Terminal} →
-    Parses P p (first ∷ []) e false → Parses (grammar.optional P) (parser.optional first p) (first ∷ []) (e ++ first ∷ []) true
+    Parses P p (first ∷ []) e false → Parses (grammar.optional P) (kit.optional first p) (first ∷ []) (e ++ first ∷ []) true
 parses-optional h = parses-or (parses-then h (λ x. parses-give (Some x)) refl) (parses-give None) refl
 
 pub parses-skip : (w : List ℕ) → Parses (grammar.skip (W w)) (parser.skip (W w)) (W w ∷ []) (W w ∷ []) true
@@ -30,7 +31,7 @@ parses-several h d = parses-then h (λ x. parses-more h d (x ∷ [])) d
 
 pub parses-listed : {A : Type 0} {P : Rule A} {p : Parser A} {f e : List Terminal} →
     Parses P p f e false → disjoint (word.comma ∷ []) e ≡ true → disjoint (word.close ∷ []) ((word.comma ∷ e) ++ e) ≡ true →
-    Parses (grammar.listed P) (parser.listed p) (word.opening ∷ []) [] false
+    Parses (grammar.listed P) (kit.listed p) (word.opening ∷ []) [] false
 parses-listed {f = f} h d d' =
     parses-then (parses-symbol _) (λ _.
     parses-then (separated-parses _ h d) (λ xs.

@@ -4,19 +4,18 @@ use Rattle.std.proofs.lemmas.List.{append-nil}
 use Rattle.pg_lex.specs.declared.token.Token.{Token}
 use Rattle.pg_lex.specs.declared.token.TokenKind.TheVariants.{End}
 use Rattle.pg_ast.specs.declared.statement.Statement.{Statement}
-use Rattle.pg_ast.specs.Terminals.{Tokens, matches, is_ordinary, Inner}
-use Rattle.pg_ast.specs.Rule.{Rule, Then, the, give}
-use Rattle.pg_ast.specs.GrammarStatements.{IsStatement, FirstFault}
-use Rattle.pg_ast.specs.Terminals.{IsEnded}
-use Rattle.pg_ast.specs.GrammarStatements as grammar
-use Rattle.pg_ast.specs.StatementWords as keyword
-use Rattle.pg_phrase.specs.Reading.{Outcome, Fails, place_of}
-use Rattle.pg_phrase.specs.declared.fault.Fault.{Fault}
-use Rattle.pg_phrase.specs.declared.fault.Fault.TheVariants.{Syntax}
-use Rattle.pg_phrase.specs.Sets.{any, kind-same}
-use Rattle.pg_phrase.specs.Kit.{Exact, Explains, Stops, exact-then, exact-one, exact-give, Some}
+use Rattle.pg_ast.specs.Words.Terminals.{Tokens, matches, is_ordinary, Inner, IsEnded}
+use Rattle.pg_ast.specs.Grammar.Rule.{Rule, Then, the, give}
+use Rattle.pg_ast.specs.Grammar.{IsStatement, FirstFault}
+use Rattle.pg_ast.specs.Grammar as grammar
+use Rattle.pg_ast.specs.Words as keyword
+use Rattle.pg_grammar.specs.Kit.Reading.{Outcome, Fails, place_of}
+use Rattle.pg_grammar.specs.declared.fault.Fault.{Fault}
+use Rattle.pg_grammar.specs.declared.fault.Fault.TheVariants.{Syntax}
+use Rattle.pg_grammar.specs.Kit.Sets.{any, kind-same}
+use Rattle.pg_grammar.specs.Kit.{Exact, Explains, Stops, exact-then, exact-one, exact-give, Some}
 use Rattle.pg_sql.specs.Answers.{OneTree}
-use Rattle.pg_sql.specs.ReadStatements as parser
+use Rattle.pg_sql.specs.Read as parser
 use Rattle.pg_sql.proofs.BodyLaws.{parses-statement}
 
 some-end : Some (the keyword.ending)

@@ -4,17 +4,17 @@ use Rattle.std.specs.Prelude.{codes}
 use Rattle.pg_lex.specs.declared.token.Token.{Token}
 use Rattle.pg_ast.specs.declared.define.Define.{Define}
 use Rattle.pg_ast.specs.declared.define.Define.TheVariants.{Table}
-use Rattle.pg_ast.specs.Terminals.{AName, ANumber, is_among}
-use Rattle.pg_ast.specs.Rule.{Rule, ◌>>=◌, give, the}
-use Rattle.pg_ast.specs.GrammarNames.{name}
-use Rattle.pg_ast.specs.GrammarParts.{many, listed}
-use Rattle.pg_ast.specs.GrammarDefinitions as grammar
-use Rattle.pg_ast.specs.Words as word
-use Rattle.pg_ast.specs.StatementWords as keyword
-use Rattle.pg_phrase.specs.Parses.{Parses, parses-the, parses-give, parses-then, parses-or}
-use Rattle.pg_phrase.specs.TokenLaws.{inner-number, parses-word, parses-symbol}
-use Rattle.pg_phrase.specs.NameLaws.{parses-name, parses-names}
-use Rattle.pg_sql.specs.ReadTables as parser
+use Rattle.pg_ast.specs.Words.Terminals.{AName, ANumber, is_among}
+use Rattle.pg_ast.specs.Grammar.Rule.{Rule, ◌>>=◌, give, the}
+use Rattle.pg_ast.specs.Grammar.Names.{name}
+use Rattle.pg_ast.specs.Grammar.Parts.{many, listed}
+use Rattle.pg_ast.specs.Grammar.Definitions as grammar
+use Rattle.pg_ast.specs.Words.Names as word
+use Rattle.pg_ast.specs.Words as keyword
+use Rattle.pg_grammar.specs.Kit.Parses.{Parses, parses-the, parses-give, parses-then, parses-or}
+use Rattle.pg_grammar.specs.Kit.OneToken.{inner-number, parses-word, parses-symbol}
+use Rattle.pg_grammar.specs.Laws.{parses-name, parses-names}
+use Rattle.pg_sql.specs.Read.Tables as parser
 use Rattle.pg_sql.proofs.PartLaws.{parses-more, parses-listed}
 
 parses-varchar : Parses (the keyword.varchar >>= grammar.size) parser.varchar (keyword.varchar ∷ []) (word.opening ∷ []) false

@@ -1,8 +1,8 @@
 -- What the answer of parse_statement means.
 use Rattle.std.specs.Prelude.{◌≡◌, Result, Ok, Err}
 use Rattle.pg_ast.specs.declared.statement.Statement.{Statement}
-use Rattle.pg_ast.specs.Terminals.{Tokens}
-use Rattle.pg_ast.specs.GrammarStatements.{IsStatement, FirstFault}
+use Rattle.pg_ast.specs.Words.Terminals.{Tokens}
+use Rattle.pg_ast.specs.Grammar.{IsStatement, FirstFault}
 use Rattle.pg_pattern.specs.declared.fault.ParseFault.{ParseFault}
 use Rattle.pg_pattern.specs.declared.fault.ParseFault.TheVariants.{Syntax, Memory}
 

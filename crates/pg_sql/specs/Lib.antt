@@ -1,6 +1,4 @@
-pub mod ReadParts
-pub mod ReadTables
-pub mod ReadGraphs
-pub mod ReadChanges
-pub mod ReadStatements
+-- What pg_sql is proved against.
 pub mod Answers
+pub mod Parsed
+pub mod Read

@@ -1,16 +1,17 @@
 //! CREATE PROPERTY GRAPH: its edge tables, and the statement.
-ghost use Rattle.pg_phrase.specs.Reading.{Reads};
-ghost use Rattle.pg_sql.specs.ReadGraphs as spec;
+ghost use Rattle.pg_grammar.specs.Kit.Reading.{Reads};
+ghost use Rattle.pg_sql.specs.Read.Graphs as spec;
 
 use crate::labels::labels;
 use crate::vertices::{key, own_key, vertex_tables};
 use pg_ast::{Define, EdgeDef, EndDef, GraphDef};
+use pg_grammar::{Cursor, Fault, listed, name, names};
 use pg_lex::Token;
-use pg_phrase::{Cursor, Fault, name, names};
 use pg_value::List;
 use std::alloc::Global;
 
-#[tactic(auto, unfolding(crate::specs::ReadGraphs::end_point))]
+/// The source or the destination of an edge table.
+#[tactic(auto, unfolding(crate::specs::Read::Graphs::end_point))]
 fn end_point(alloc: Global, cursor: &mut Cursor<'_>) -> Result<EndDef, Fault>
     ensures { Reads (spec.end_point cursor.old) result cursor.new }
 {
@@ -25,7 +26,8 @@ fn end_point(alloc: Global, cursor: &mut Cursor<'_>) -> Result<EndDef, Fault>
     })
 }
 
-#[tactic(auto, unfolding(crate::specs::ReadGraphs::edge))]
+/// An edge table.
+#[tactic(auto, unfolding(crate::specs::Read::Graphs::edge))]
 fn edge(alloc: Global, cursor: &mut Cursor<'_>) -> Result<EdgeDef, Fault>
     ensures { Reads (spec.edge cursor.old) result cursor.new }
 {
@@ -45,47 +47,28 @@ fn edge(alloc: Global, cursor: &mut Cursor<'_>) -> Result<EdgeDef, Fault>
     })
 }
 
-#[tactic(auto, unfolding(pg_phrase::specs::Reading::turns))]
-fn edge_list(alloc: Global, cursor: &mut Cursor<'_>) -> Result<List<EdgeDef>, Fault>
-    ensures { Reads (spec.edge_list cursor.old) result cursor.new }
-{
-    let mut found = List::new(alloc);
-    found.push(edge(alloc, cursor)?)?;
-    for _turn in 0..cursor.len() {
-        if !cursor.sees_symbol(b",") {
-            break;
-        }
-        cursor.symbol(b",")?;
-        found.push(edge(alloc, cursor)?)?;
-    }
-    Ok(found)
-}
-
-#[tactic(auto, unfolding(crate::specs::ReadGraphs::edges))]
+/// Edge tables in parentheses, with commas between.
+#[tactic(auto, unfolding(crate::specs::Read::Graphs::edges))]
 fn edges(alloc: Global, cursor: &mut Cursor<'_>) -> Result<List<EdgeDef>, Fault>
     ensures { Reads (spec.edges cursor.old) result cursor.new }
 {
-    cursor.symbol(b"(")?;
-    let edges = edge_list(alloc, cursor)?;
-    cursor.symbol(b")")?;
-    Ok(edges)
+    listed(alloc, cursor, edge)
 }
 
-// Reads the edge tables, where they stand.
-#[tactic(auto, unfolding(crate::specs::ReadGraphs::edge_tables))]
+/// Reads the edge tables, where they stand.
+#[tactic(auto, unfolding(crate::specs::Read::Graphs::edge_tables))]
 fn edge_tables(alloc: Global, cursor: &mut Cursor<'_>) -> Result<List<EdgeDef>, Fault>
     ensures { Reads (spec.edge_tables cursor.old) result cursor.new }
 {
-    if !cursor.sees_word(b"EDGE") {
+    if !cursor.eat_word(b"EDGE") {
         return Ok(List::new(alloc));
     }
-    cursor.word(b"EDGE")?;
     cursor.word(b"TABLES")?;
     edges(alloc, cursor)
 }
 
 /// Reads CREATE PROPERTY GRAPH from PROPERTY on, behind that CREATE.
-#[tactic(auto, unfolding(crate::specs::ReadGraphs::graph))]
+#[tactic(auto, unfolding(crate::specs::Read::Graphs::graph))]
 pub fn graph(alloc: Global, cursor: &mut Cursor<'_>, create: &Token) -> Result<Define, Fault>
     ensures { Reads (spec.graph create.now cursor.old) result cursor.new }
 {

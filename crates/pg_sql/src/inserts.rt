@@ -1,55 +1,46 @@
-ghost use Rattle.pg_phrase.specs.Reading.{Reads};
-ghost use Rattle.pg_sql.specs.ReadChanges as spec;
+//! INSERT.
+ghost use Rattle.pg_grammar.specs.Kit.Reading.{Reads};
+ghost use Rattle.pg_sql.specs.Read.Changes as spec;
 
 use pg_ast::{Insert, InsertTuple, Name, Scope, Whole};
-use pg_phrase::{Cursor, Fault, name, names, whole};
+use pg_grammar::{Cursor, Fault, name, names, separated, whole};
 use pg_value::List;
 use std::alloc::Global;
 
-#[tactic(auto, unfolding(pg_phrase::specs::Reading::turns))]
+/// A value of a tuple.
+fn value(alloc: Global, cursor: &mut Cursor<'_>) -> Result<Whole, Fault>
+    ensures { Reads (spec.value cursor.old) result cursor.new }
+{
+    whole(alloc, cursor, Scope::Insert)
+}
+
+/// Values with commas between.
 fn value_list(alloc: Global, cursor: &mut Cursor<'_>) -> Result<List<Whole>, Fault>
     ensures { Reads (spec.value_list cursor.old) result cursor.new }
 {
-    let mut found = List::new(alloc);
-    found.push(whole(alloc, cursor, Scope::Insert)?)?;
-    for _turn in 0..cursor.len() {
-        if !cursor.sees_symbol(b",") {
-            break;
-        }
-        cursor.symbol(b",")?;
-        found.push(whole(alloc, cursor, Scope::Insert)?)?;
-    }
-    Ok(found)
+    separated(alloc, cursor, value)
 }
 
-#[tactic(auto, unfolding(crate::specs::ReadChanges::tuple))]
+/// Values in parentheses.
+#[tactic(auto, unfolding(crate::specs::Read::Changes::tuple))]
 fn tuple(alloc: Global, cursor: &mut Cursor<'_>) -> Result<InsertTuple, Fault>
     ensures { Reads (spec.tuple cursor.old) result cursor.new }
 {
     let at = cursor.symbol(b"(")?.from;
     let values = value_list(alloc, cursor)?;
-    cursor.symbol(b")")?;
+    let values = cursor.closed(b")", values)?;
     Ok(InsertTuple { values, at })
 }
 
-#[tactic(auto, unfolding(pg_phrase::specs::Reading::turns))]
+/// Tuples with commas between.
 fn tuple_list(alloc: Global, cursor: &mut Cursor<'_>) -> Result<List<InsertTuple>, Fault>
     ensures { Reads (spec.tuple_list cursor.old) result cursor.new }
 {
-    let mut found = List::new(alloc);
-    found.push(tuple(alloc, cursor)?)?;
-    for _turn in 0..cursor.len() {
-        if !cursor.sees_symbol(b",") {
-            break;
-        }
-        cursor.symbol(b",")?;
-        found.push(tuple(alloc, cursor)?)?;
-    }
-    Ok(found)
+    separated(alloc, cursor, tuple)
 }
 
-// Reads the names of columns, where they stand.
-#[tactic(auto, unfolding(crate::specs::ReadChanges::columns))]
+/// Reads the names of columns, where they stand.
+#[tactic(auto, unfolding(crate::specs::Read::Changes::columns))]
 fn columns(alloc: Global, cursor: &mut Cursor<'_>) -> Result<Option<List<Name>>, Fault>
     ensures { Reads (spec.columns cursor.old) result cursor.new }
 {
@@ -61,7 +52,7 @@ fn columns(alloc: Global, cursor: &mut Cursor<'_>) -> Result<Option<List<Name>>,
 }
 
 /// Reads INSERT.
-#[tactic(auto, unfolding(crate::specs::ReadChanges::insert))]
+#[tactic(auto, unfolding(crate::specs::Read::Changes::insert))]
 pub fn insert(alloc: Global, cursor: &mut Cursor<'_>) -> Result<Insert, Fault>
     ensures { Reads (spec.insert cursor.old) result cursor.new }
 {

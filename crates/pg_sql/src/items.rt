@@ -1,18 +1,19 @@
-ghost use Rattle.pg_phrase.specs.Reading.{Reads};
-ghost use Rattle.pg_sql.specs.ReadTables as spec;
+//! The items of CREATE TABLE: columns and keys.
+ghost use Rattle.pg_grammar.specs.Kit.Reading.{Reads, ReadsSurely};
+ghost use Rattle.pg_sql.specs.Read.Tables as spec;
 
 use crate::types::kind;
 use pg_ast::{Item, Mark};
-use pg_phrase::{Cursor, Fault, name, names};
+use pg_grammar::{Cursor, Fault, Unexpected, listed, name, names};
 use pg_value::List;
 use std::alloc::Global;
 
-#[tactic(auto, unfolding(crate::specs::ReadTables::mark))]
-fn mark(cursor: &mut Cursor<'_>) -> Result<Mark, Fault>
-    ensures { Reads (spec.mark cursor.old) result cursor.new }
+/// NOT NULL or PRIMARY KEY.
+#[tactic(auto, unfolding(crate::specs::Read::Tables::mark))]
+fn mark(cursor: &mut Cursor<'_>) -> Result<Mark, Unexpected>
+    ensures { ReadsSurely (spec.mark cursor.old) result cursor.new }
 {
-    if cursor.sees_word(b"NOT") {
-        cursor.word(b"NOT")?;
+    if cursor.eat_word(b"NOT") {
         cursor.word(b"NULL")?;
         return Ok(Mark::NotNull);
     }
@@ -21,7 +22,8 @@ fn mark(cursor: &mut Cursor<'_>) -> Result<Mark, Fault>
     Ok(Mark::Primary)
 }
 
-#[tactic(auto, unfolding(pg_phrase::specs::Reading::turns))]
+/// Any number of NOT NULL and PRIMARY KEY.
+#[tactic(auto, unfolding(pg_grammar::specs::Kit::Reading::turns))]
 fn marks(alloc: Global, cursor: &mut Cursor<'_>) -> Result<List<Mark>, Fault>
     ensures { Reads (spec.marks cursor.old) result cursor.new }
 {
@@ -35,7 +37,8 @@ fn marks(alloc: Global, cursor: &mut Cursor<'_>) -> Result<List<Mark>, Fault>
     Ok(found)
 }
 
-#[tactic(auto, unfolding(crate::specs::ReadTables::column))]
+/// A column.
+#[tactic(auto, unfolding(crate::specs::Read::Tables::column))]
 fn column(alloc: Global, cursor: &mut Cursor<'_>) -> Result<Item, Fault>
     ensures { Reads (spec.column cursor.old) result cursor.new }
 {
@@ -45,12 +48,12 @@ fn column(alloc: Global, cursor: &mut Cursor<'_>) -> Result<Item, Fault>
     Ok(Item::Column { name, kind, marks })
 }
 
-#[tactic(auto, unfolding(crate::specs::ReadTables::item))]
+/// A column or PRIMARY KEY with its columns.
+#[tactic(auto, unfolding(crate::specs::Read::Tables::item))]
 fn item(alloc: Global, cursor: &mut Cursor<'_>) -> Result<Item, Fault>
     ensures { Reads (spec.item cursor.old) result cursor.new }
 {
-    if cursor.sees_word(b"PRIMARY") {
-        cursor.word(b"PRIMARY")?;
+    if cursor.eat_word(b"PRIMARY") {
         cursor.word(b"KEY")?;
         let names = names(alloc, cursor)?;
         return Ok(Item::Key { names });
@@ -58,29 +61,10 @@ fn item(alloc: Global, cursor: &mut Cursor<'_>) -> Result<Item, Fault>
     column(alloc, cursor)
 }
 
-#[tactic(auto, unfolding(pg_phrase::specs::Reading::turns))]
-fn item_list(alloc: Global, cursor: &mut Cursor<'_>) -> Result<List<Item>, Fault>
-    ensures { Reads (spec.item_list cursor.old) result cursor.new }
-{
-    let mut found = List::new(alloc);
-    found.push(item(alloc, cursor)?)?;
-    for _turn in 0..cursor.len() {
-        if !cursor.sees_symbol(b",") {
-            break;
-        }
-        cursor.symbol(b",")?;
-        found.push(item(alloc, cursor)?)?;
-    }
-    Ok(found)
-}
-
 /// Reads the items of CREATE TABLE, in parentheses.
-#[tactic(auto, unfolding(crate::specs::ReadTables::items))]
+#[tactic(auto, unfolding(crate::specs::Read::Tables::items))]
 pub fn items(alloc: Global, cursor: &mut Cursor<'_>) -> Result<List<Item>, Fault>
     ensures { Reads (spec.items cursor.old) result cursor.new }
 {
-    cursor.symbol(b"(")?;
-    let items = item_list(alloc, cursor)?;
-    cursor.symbol(b")")?;
-    Ok(items)
+    listed(alloc, cursor, item)
 }

@@ -1,27 +1,26 @@
 //! The properties and labels of an element table.
-ghost use Rattle.pg_phrase.specs.Reading.{Reads};
-ghost use Rattle.pg_sql.specs.ReadGraphs as spec;
+ghost use Rattle.pg_grammar.specs.Kit.Reading.{Reads, ReadsSurely};
+ghost use Rattle.pg_sql.specs.Read.Graphs as spec;
 
-use crate::skip::skip_word;
 use pg_ast::{LabelDef, Labels, Name, PropDef, Props};
-use pg_phrase::{Cursor, Fault, name};
+use pg_grammar::{Cursor, Fault, Unexpected, listed, name};
 use pg_value::List;
 use std::alloc::Global;
 
-// Reads AS and a name, where they stand.
-#[tactic(auto, unfolding(crate::specs::ReadGraphs::new_name))]
+/// Reads AS and a name, where they stand.
+#[tactic(auto, unfolding(crate::specs::Read::Graphs::new_name))]
 fn new_name(alloc: Global, cursor: &mut Cursor<'_>) -> Result<Option<Name>, Fault>
     ensures { Reads (spec.new_name cursor.old) result cursor.new }
 {
-    if !cursor.sees_word(b"AS") {
+    if !cursor.eat_word(b"AS") {
         return Ok(None);
     }
-    cursor.word(b"AS")?;
     let name = name(alloc, cursor)?;
     Ok(Some(name))
 }
 
-#[tactic(auto, unfolding(crate::specs::ReadGraphs::prop))]
+/// A column as a property, under its name or another.
+#[tactic(auto, unfolding(crate::specs::Read::Graphs::prop))]
 fn prop(alloc: Global, cursor: &mut Cursor<'_>) -> Result<PropDef, Fault>
     ensures { Reads (spec.prop cursor.old) result cursor.new }
 {
@@ -39,43 +38,27 @@ fn prop(alloc: Global, cursor: &mut Cursor<'_>) -> Result<PropDef, Fault>
     }
 }
 
-#[tactic(auto, unfolding(pg_phrase::specs::Reading::turns))]
-fn prop_list(alloc: Global, cursor: &mut Cursor<'_>) -> Result<List<PropDef>, Fault>
-    ensures { Reads (spec.prop_list cursor.old) result cursor.new }
-{
-    let mut found = List::new(alloc);
-    found.push(prop(alloc, cursor)?)?;
-    for _turn in 0..cursor.len() {
-        if !cursor.sees_symbol(b",") {
-            break;
-        }
-        cursor.symbol(b",")?;
-        found.push(prop(alloc, cursor)?)?;
-    }
-    Ok(found)
-}
-
-#[tactic(auto, unfolding(crate::specs::ReadGraphs::prop_items))]
+/// Properties in parentheses, with commas between.
+#[tactic(auto, unfolding(crate::specs::Read::Graphs::prop_items))]
 fn prop_items(alloc: Global, cursor: &mut Cursor<'_>) -> Result<List<PropDef>, Fault>
     ensures { Reads (spec.prop_items cursor.old) result cursor.new }
 {
-    cursor.symbol(b"(")?;
-    let props = prop_list(alloc, cursor)?;
-    cursor.symbol(b")")?;
-    Ok(props)
+    listed(alloc, cursor, prop)
 }
 
-#[tactic(auto, unfolding(crate::specs::ReadGraphs::all_columns))]
-fn all_columns(cursor: &mut Cursor<'_>) -> Result<Props, Fault>
-    ensures { Reads (spec.all_columns cursor.old) result cursor.new }
+/// ARE ALL COLUMNS, where ARE may be left out.
+#[tactic(auto, unfolding(crate::specs::Read::Graphs::all_columns, crate::specs::Read::Parts::skip))]
+fn all_columns(cursor: &mut Cursor<'_>) -> Result<Props, Unexpected>
+    ensures { ReadsSurely (spec.all_columns cursor.old) result cursor.new }
 {
-    skip_word(cursor, b"ARE")?;
+    cursor.eat_word(b"ARE");
     cursor.word(b"ALL")?;
     cursor.word(b"COLUMNS")?;
     Ok(Props::All)
 }
 
-#[tactic(auto, unfolding(crate::specs::ReadGraphs::properties))]
+/// PROPERTIES and which.
+#[tactic(auto, unfolding(crate::specs::Read::Graphs::properties))]
 fn properties(alloc: Global, cursor: &mut Cursor<'_>) -> Result<Props, Fault>
     ensures { Reads (spec.properties cursor.old) result cursor.new }
 {
@@ -84,22 +67,23 @@ fn properties(alloc: Global, cursor: &mut Cursor<'_>) -> Result<Props, Fault>
         let props = prop_items(alloc, cursor)?;
         return Ok(Props::Listed(props));
     }
-    all_columns(cursor)
+    Ok(all_columns(cursor)?)
 }
 
-#[tactic(auto, unfolding(crate::specs::ReadGraphs::props))]
+/// NO PROPERTIES, or PROPERTIES and which.
+#[tactic(auto, unfolding(crate::specs::Read::Graphs::props))]
 fn props(alloc: Global, cursor: &mut Cursor<'_>) -> Result<Props, Fault>
     ensures { Reads (spec.props cursor.old) result cursor.new }
 {
-    if cursor.sees_word(b"NO") {
-        cursor.word(b"NO")?;
+    if cursor.eat_word(b"NO") {
         cursor.word(b"PROPERTIES")?;
         return Ok(Props::Listed(List::new(alloc)));
     }
     properties(alloc, cursor)
 }
 
-#[tactic(auto, unfolding(crate::specs::ReadGraphs::any_props))]
+/// The properties of a label, all columns where nothing says which.
+#[tactic(auto, unfolding(crate::specs::Read::Graphs::any_props))]
 fn any_props(alloc: Global, cursor: &mut Cursor<'_>) -> Result<Props, Fault>
     ensures { Reads (spec.any_props cursor.old) result cursor.new }
 {
@@ -109,7 +93,8 @@ fn any_props(alloc: Global, cursor: &mut Cursor<'_>) -> Result<Props, Fault>
     Ok(Props::All)
 }
 
-#[tactic(auto, unfolding(crate::specs::ReadGraphs::default_label))]
+/// DEFAULT LABEL: a label of the name of the table.
+#[tactic(auto, unfolding(crate::specs::Read::Graphs::default_label))]
 fn default_label(alloc: Global, cursor: &mut Cursor<'_>, table: &Name) -> Result<LabelDef, Fault>
     ensures { Reads (spec.default_label table.now cursor.old) result cursor.new }
 {
@@ -124,7 +109,8 @@ fn default_label(alloc: Global, cursor: &mut Cursor<'_>, table: &Name) -> Result
     })
 }
 
-#[tactic(auto, unfolding(crate::specs::ReadGraphs::label))]
+/// A label.
+#[tactic(auto, unfolding(crate::specs::Read::Graphs::label))]
 fn label(alloc: Global, cursor: &mut Cursor<'_>, table: &Name) -> Result<LabelDef, Fault>
     ensures { Reads (spec.label table.now cursor.old) result cursor.new }
 {
@@ -137,7 +123,8 @@ fn label(alloc: Global, cursor: &mut Cursor<'_>, table: &Name) -> Result<LabelDe
     default_label(alloc, cursor, table)
 }
 
-#[tactic(auto, unfolding(pg_phrase::specs::Reading::turns))]
+/// One or more labels.
+#[tactic(auto, unfolding(pg_grammar::specs::Kit::Reading::turns))]
 fn label_list(alloc: Global, cursor: &mut Cursor<'_>, table: &Name) -> Result<List<LabelDef>, Fault>
     ensures { Reads (spec.label_list table.now cursor.old) result cursor.new }
 {
@@ -153,7 +140,7 @@ fn label_list(alloc: Global, cursor: &mut Cursor<'_>, table: &Name) -> Result<Li
 }
 
 /// Reads the labels of the table of that name.
-#[tactic(auto, unfolding(crate::specs::ReadGraphs::labels))]
+#[tactic(auto, unfolding(crate::specs::Read::Graphs::labels))]
 pub fn labels(alloc: Global, cursor: &mut Cursor<'_>, table: &Name) -> Result<Labels, Fault>
     ensures { Reads (spec.labels table.now cursor.old) result cursor.new }
 {

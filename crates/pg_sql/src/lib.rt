@@ -9,15 +9,15 @@ mod edges;
 mod inserts;
 mod items;
 mod labels;
-mod number;
-mod skip;
+mod parsed;
+mod read;
 mod statement;
 mod tables;
-#[cfg(test)]
-mod tests;
 mod transaction;
 mod types;
 mod updates;
 mod vertices;
 
+pub use parsed::Parsed;
+pub use read::read_statement;
 pub use statement::{one_tree, parse_statement};

@@ -1,9 +1,10 @@
+//! Statements.
 ghost use Rattle.std.specs.Prelude.{IfOk, IfErr};
-ghost use Rattle.pg_ast.specs.GrammarStatements.{IsStatement};
-ghost use Rattle.pg_ast.specs.Terminals.{IsEnded};
-ghost use Rattle.pg_phrase.specs.Reading.{Reads};
+ghost use Rattle.pg_ast.specs.Grammar.{IsStatement};
+ghost use Rattle.pg_ast.specs.Words.Terminals.{IsEnded};
+ghost use Rattle.pg_grammar.specs.Kit.Reading.{Reads, ReadsSurely};
 ghost use Rattle.pg_sql.specs.Answers.{IsFault, AnswersOnly, OneTree};
-ghost use Rattle.pg_sql.specs.ReadStatements as spec;
+ghost use Rattle.pg_sql.specs.Read as spec;
 
 use crate::edges::graph;
 use crate::inserts::insert;
@@ -11,13 +12,14 @@ use crate::tables::table;
 use crate::transaction::transaction;
 use crate::updates::{delete, update};
 use pg_ast::{Define, Statement};
+use pg_grammar::{Cursor, Fault, Unexpected};
 use pg_lex::Token;
 use pg_pattern::{ParseFault, query};
-use pg_phrase::{Cursor, Fault};
 use pg_value::List;
 use std::alloc::Global;
 
-#[tactic(auto, unfolding(crate::specs::ReadStatements::define))]
+/// CREATE TABLE or CREATE PROPERTY GRAPH.
+#[tactic(auto, unfolding(crate::specs::Read::define))]
 fn define(alloc: Global, cursor: &mut Cursor<'_>) -> Result<Define, Fault>
     ensures { Reads (spec.define cursor.old) result cursor.new }
 {
@@ -28,7 +30,8 @@ fn define(alloc: Global, cursor: &mut Cursor<'_>) -> Result<Define, Fault>
     graph(alloc, cursor, create)
 }
 
-#[tactic(auto, unfolding(crate::specs::ReadStatements::body))]
+/// A statement without its `;`.
+#[tactic(auto, unfolding(crate::specs::Read::body))]
 fn body(alloc: Global, cursor: &mut Cursor<'_>) -> Result<Statement, Fault>
     ensures { Reads (spec.body cursor.old) result cursor.new }
 {
@@ -52,25 +55,33 @@ fn body(alloc: Global, cursor: &mut Cursor<'_>) -> Result<Statement, Fault>
         let query = query(alloc, cursor)?;
         return Ok(Statement::Query(query));
     }
-    transaction(cursor)
+    Ok(transaction(cursor)?)
 }
 
-#[tactic(auto, unfolding(crate::specs::ReadStatements::statement))]
+/// A statement with its `;`.
+#[tactic(auto, unfolding(crate::specs::Read::statement))]
 fn terminated(alloc: Global, cursor: &mut Cursor<'_>) -> Result<Statement, Fault>
     ensures { Reads (spec.statement cursor.old) result cursor.new }
 {
     let statement = body(alloc, cursor)?;
-    cursor.symbol(b";")?;
-    Ok(statement)
+    Ok(cursor.closed(b";", statement)?)
 }
 
-#[tactic(auto, unfolding(crate::specs::ReadStatements::whole_statement))]
+/// What was read, where the end comes behind it.
+fn ended<T: Drop>(cursor: &mut Cursor<'_>, read: T) -> Result<T, Unexpected>
+    ensures { ReadsSurely (spec.ended read cursor.old) result cursor.new }
+{
+    cursor.end()?;
+    Ok(read)
+}
+
+/// A statement with its `;`, and the end.
+#[tactic(auto, unfolding(crate::specs::Read::whole_statement))]
 fn whole_statement(alloc: Global, cursor: &mut Cursor<'_>) -> Result<Statement, Fault>
     ensures { Reads (spec.whole_statement cursor.old) result cursor.new }
 {
     let statement = terminated(alloc, cursor)?;
-    cursor.end()?;
-    Ok(statement)
+    Ok(ended(cursor, statement)?)
 }
 
 /// The statement that the tokens are: one of the grammar, `;`, and `End`. `Syntax` comes exactly where they are none, at

@@ -1,25 +1,25 @@
 //! CREATE TABLE from its items: the columns, and the PRIMARY KEY clauses of columns and of the table in text order.
 ghost use Rattle.std.specs.Prelude.{◌≡◌, ◌++◌, [], ◌∷◌, IfOk, map, filter, filter_map, flat_map};
 ghost use Rattle.std.specs.List.{cons_option, list_any};
-ghost use Rattle.pg_ast.specs.GrammarDefinitions.{is_primary, is_not_null, column_of, keys_of};
-ghost use Rattle.pg_phrase.specs.Reading.{Reads};
-ghost use Rattle.pg_sql.specs.ReadTables as spec;
+ghost use Rattle.pg_ast.specs.Grammar.Definitions.{is_primary, is_not_null, column_of, keys_of};
+ghost use Rattle.pg_grammar.specs.Kit.Reading.{Reads};
+ghost use Rattle.pg_sql.specs.Read.Tables as spec;
 
 use crate::items::items;
 use pg_ast::{ColumnDef, Define, Item, Mark, Name, TableDef};
+use pg_grammar::{Cursor, Fault, name};
 use pg_lex::Token;
-use pg_phrase::{Cursor, Fault, name};
 use pg_value::List;
 use std::alloc::{AllocError, Global};
 
-// What the items read so far define.
+/// What the items read so far define.
 #[derive(Drop)]
 struct Parts {
     columns: List<ColumnDef>,
     keys: List<List<Name>>,
 }
 
-// A list of an equal name alone.
+/// A list of an equal name alone.
 fn only_name(alloc: Global, name: &Name) -> Result<List<Name>, AllocError>
     ensures { IfOk result (λ names. names ≡ name.now ∷ []) }
 {
@@ -29,6 +29,7 @@ fn only_name(alloc: Global, name: &Name) -> Result<List<Name>, AllocError>
     Ok(names)
 }
 
+/// The keys, and one of that column alone for each PRIMARY KEY among its marks.
 fn with_key_marks(
     alloc: Global,
     keys: List<List<Name>>,
@@ -47,6 +48,7 @@ fn with_key_marks(
     Ok(keys)
 }
 
+/// Whether NOT NULL is among the marks.
 fn has_not_null(marks: &[Mark]) -> bool
     ensures { result ≡ list_any is_not_null marks.now }
 {
@@ -58,6 +60,7 @@ fn has_not_null(marks: &[Mark]) -> bool
     false
 }
 
+/// The parts with what one more item defines.
 fn with_item(alloc: Global, parts: Parts, item: Item) -> Result<Parts, AllocError>
     ensures columns { IfOk result (λ all. all.columns ≡ parts.columns ++ cons_option (column_of item) []) }
     ensures keys { IfOk result (λ all. all.keys ≡ parts.keys ++ keys_of item) }
@@ -81,6 +84,7 @@ fn with_item(alloc: Global, parts: Parts, item: Item) -> Result<Parts, AllocErro
     Ok(Parts { columns, keys })
 }
 
+/// What the items define.
 fn parts_of(alloc: Global, items: List<Item>) -> Result<Parts, AllocError>
     ensures columns { IfOk result (λ all. all.columns ≡ filter_map column_of items) }
     ensures keys { IfOk result (λ all. all.keys ≡ flat_map keys_of items) }
@@ -96,7 +100,7 @@ fn parts_of(alloc: Global, items: List<Item>) -> Result<Parts, AllocError>
 }
 
 /// Reads CREATE TABLE from TABLE on, behind that CREATE.
-#[tactic(auto, unfolding(crate::specs::ReadTables::table))]
+#[tactic(auto, unfolding(crate::specs::Read::Tables::table))]
 pub fn table(alloc: Global, cursor: &mut Cursor<'_>, create: &Token) -> Result<Define, Fault>
     ensures { Reads (spec.table create.now cursor.old) result cursor.new }
 {

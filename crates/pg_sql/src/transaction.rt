@@ -1,50 +1,54 @@
-ghost use Rattle.pg_phrase.specs.Reading.{Reads};
-ghost use Rattle.pg_sql.specs.ReadStatements as spec;
+//! The begin and the end of a transaction.
+ghost use Rattle.pg_grammar.specs.Kit.Reading.{ReadsSurely};
+ghost use Rattle.pg_sql.specs.Read as spec;
 
-use crate::skip::skip_word;
 use pg_ast::Statement;
-use pg_phrase::{Cursor, Fault};
+use pg_grammar::{Cursor, Unexpected};
 
-#[tactic(auto, unfolding(crate::specs::ReadStatements::begin))]
-fn begin(cursor: &mut Cursor<'_>) -> Result<Statement, Fault>
-    ensures { Reads (spec.begin cursor.old) result cursor.new }
+/// BEGIN, with TRANSACTION or without.
+#[tactic(auto, unfolding(crate::specs::Read::begin, crate::specs::Read::Parts::skip))]
+fn begin(cursor: &mut Cursor<'_>) -> Result<Statement, Unexpected>
+    ensures { ReadsSurely (spec.begin cursor.old) result cursor.new }
 {
     cursor.word(b"BEGIN")?;
-    skip_word(cursor, b"TRANSACTION")?;
+    cursor.eat_word(b"TRANSACTION");
     Ok(Statement::Begin)
 }
 
-#[tactic(auto, unfolding(crate::specs::ReadStatements::start))]
-fn start(cursor: &mut Cursor<'_>) -> Result<Statement, Fault>
-    ensures { Reads (spec.start cursor.old) result cursor.new }
+/// START TRANSACTION.
+#[tactic(auto, unfolding(crate::specs::Read::start))]
+fn start(cursor: &mut Cursor<'_>) -> Result<Statement, Unexpected>
+    ensures { ReadsSurely (spec.start cursor.old) result cursor.new }
 {
     cursor.word(b"START")?;
     cursor.word(b"TRANSACTION")?;
     Ok(Statement::Begin)
 }
 
-#[tactic(auto, unfolding(crate::specs::ReadStatements::commit))]
-fn commit(cursor: &mut Cursor<'_>) -> Result<Statement, Fault>
-    ensures { Reads (spec.commit cursor.old) result cursor.new }
+/// COMMIT, with WORK or without.
+#[tactic(auto, unfolding(crate::specs::Read::commit, crate::specs::Read::Parts::skip))]
+fn commit(cursor: &mut Cursor<'_>) -> Result<Statement, Unexpected>
+    ensures { ReadsSurely (spec.commit cursor.old) result cursor.new }
 {
     cursor.word(b"COMMIT")?;
-    skip_word(cursor, b"WORK")?;
+    cursor.eat_word(b"WORK");
     Ok(Statement::Commit)
 }
 
-#[tactic(auto, unfolding(crate::specs::ReadStatements::rollback))]
-fn rollback(cursor: &mut Cursor<'_>) -> Result<Statement, Fault>
-    ensures { Reads (spec.rollback cursor.old) result cursor.new }
+/// ROLLBACK, with WORK or without.
+#[tactic(auto, unfolding(crate::specs::Read::rollback, crate::specs::Read::Parts::skip))]
+fn rollback(cursor: &mut Cursor<'_>) -> Result<Statement, Unexpected>
+    ensures { ReadsSurely (spec.rollback cursor.old) result cursor.new }
 {
     cursor.word(b"ROLLBACK")?;
-    skip_word(cursor, b"WORK")?;
+    cursor.eat_word(b"WORK");
     Ok(Statement::Rollback)
 }
 
 /// Reads the begin or the end of a transaction.
-#[tactic(auto, unfolding(crate::specs::ReadStatements::transaction))]
-pub fn transaction(cursor: &mut Cursor<'_>) -> Result<Statement, Fault>
-    ensures { Reads (spec.transaction cursor.old) result cursor.new }
+#[tactic(auto, unfolding(crate::specs::Read::transaction))]
+pub fn transaction(cursor: &mut Cursor<'_>) -> Result<Statement, Unexpected>
+    ensures { ReadsSurely (spec.transaction cursor.old) result cursor.new }
 {
     if cursor.sees_word(b"BEGIN") {
         return begin(cursor);

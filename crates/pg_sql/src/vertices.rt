@@ -1,14 +1,15 @@
-ghost use Rattle.pg_phrase.specs.Reading.{Reads};
-ghost use Rattle.pg_sql.specs.ReadGraphs as spec;
+//! Vertex tables, and the keys of element tables.
+ghost use Rattle.pg_grammar.specs.Kit.Reading.{Reads};
+ghost use Rattle.pg_sql.specs.Read.Graphs as spec;
 
 use crate::labels::labels;
 use pg_ast::{Name, VertexDef};
-use pg_phrase::{Cursor, Fault, name, names};
+use pg_grammar::{Cursor, Fault, listed, name, names};
 use pg_value::List;
 use std::alloc::Global;
 
 /// Reads KEY and the names of a key.
-#[tactic(auto, unfolding(crate::specs::ReadGraphs::key))]
+#[tactic(auto, unfolding(crate::specs::Read::Graphs::key))]
 pub fn key(alloc: Global, cursor: &mut Cursor<'_>) -> Result<List<Name>, Fault>
     ensures { Reads (spec.key cursor.old) result cursor.new }
 {
@@ -17,7 +18,7 @@ pub fn key(alloc: Global, cursor: &mut Cursor<'_>) -> Result<List<Name>, Fault>
 }
 
 /// Reads the key of an element table, where it stands.
-#[tactic(auto, unfolding(crate::specs::ReadGraphs::own_key))]
+#[tactic(auto, unfolding(crate::specs::Read::Graphs::own_key))]
 pub fn own_key(alloc: Global, cursor: &mut Cursor<'_>) -> Result<Option<List<Name>>, Fault>
     ensures { Reads (spec.own_key cursor.old) result cursor.new }
 {
@@ -28,7 +29,8 @@ pub fn own_key(alloc: Global, cursor: &mut Cursor<'_>) -> Result<Option<List<Nam
     Ok(Some(key))
 }
 
-#[tactic(auto, unfolding(crate::specs::ReadGraphs::vertex))]
+/// A vertex table.
+#[tactic(auto, unfolding(crate::specs::Read::Graphs::vertex))]
 fn vertex(alloc: Global, cursor: &mut Cursor<'_>) -> Result<VertexDef, Fault>
     ensures { Reads (spec.vertex cursor.old) result cursor.new }
 {
@@ -38,34 +40,16 @@ fn vertex(alloc: Global, cursor: &mut Cursor<'_>) -> Result<VertexDef, Fault>
     Ok(VertexDef { table, key, labels })
 }
 
-#[tactic(auto, unfolding(pg_phrase::specs::Reading::turns))]
-fn vertex_list(alloc: Global, cursor: &mut Cursor<'_>) -> Result<List<VertexDef>, Fault>
-    ensures { Reads (spec.vertex_list cursor.old) result cursor.new }
-{
-    let mut found = List::new(alloc);
-    found.push(vertex(alloc, cursor)?)?;
-    for _turn in 0..cursor.len() {
-        if !cursor.sees_symbol(b",") {
-            break;
-        }
-        cursor.symbol(b",")?;
-        found.push(vertex(alloc, cursor)?)?;
-    }
-    Ok(found)
-}
-
-#[tactic(auto, unfolding(crate::specs::ReadGraphs::vertices))]
+/// Vertex tables in parentheses, with commas between.
+#[tactic(auto, unfolding(crate::specs::Read::Graphs::vertices))]
 fn vertices(alloc: Global, cursor: &mut Cursor<'_>) -> Result<List<VertexDef>, Fault>
     ensures { Reads (spec.vertices cursor.old) result cursor.new }
 {
-    cursor.symbol(b"(")?;
-    let vertices = vertex_list(alloc, cursor)?;
-    cursor.symbol(b")")?;
-    Ok(vertices)
+    listed(alloc, cursor, vertex)
 }
 
 /// Reads the vertex tables of a graph.
-#[tactic(auto, unfolding(crate::specs::ReadGraphs::vertex_tables))]
+#[tactic(auto, unfolding(crate::specs::Read::Graphs::vertex_tables))]
 pub fn vertex_tables(alloc: Global, cursor: &mut Cursor<'_>) -> Result<List<VertexDef>, Fault>
     ensures { Reads (spec.vertex_tables cursor.old) result cursor.new }
 {

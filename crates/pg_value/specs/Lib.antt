@@ -7,3 +7,4 @@ pub mod Log
 pub mod Graph
 pub mod Writes
 pub mod TablesLaws
+pub mod Kinds

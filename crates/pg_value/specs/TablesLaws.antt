@@ -1,6 +1,7 @@
 -- The laws of tables under writes: what is read at a place, what one table holds, that order and fitting are kept.
 use Rattle.std.proofs.Common.{ℕ, ◌≡◌, List, [], ◌∷◌, true, false, cond, refl, ap, sym, subst, ◌∙◌, take}
 use Rattle.std.specs.Prelude.{◌==◌, map, IfSome}
+use Rattle.std.proofs.lemmas.Option.{same_Some, none-some}
 use Rattle.std.specs.declared.option.Option.{Option}
 use Rattle.std.specs.declared.option.Option.TheVariants.{Some, None}
 use Rattle.std.specs.Option.{option_map}
@@ -28,12 +29,6 @@ use Rattle.pg_value.specs.Writes.{named, write_at, merge}
 use Rattle.pg_value.specs.Log.{row_given, put, puts, after}
 use Rattle.pg_value.specs.Graph.{elem_of, elem_place}
 
-some_is : {A : Type 0} (x y : A) → Some x ≡ Some y → x ≡ y
-some_is x y h = cc
-
-not_some : {A : Type 0} (x : A) → None ≡ Some x → ⊥
-not_some x h = cc
-
 -- WHAT A WRITE GIVES
 
 abbrev stored_as : Write → Row → Stored
@@ -44,8 +39,8 @@ given_place : (w : Write) (s : Stored) → row_given w ≡ Some s → place_of s
 given_place w s h = go w.row h
   where
     go : (r : Option Row) → option_map (stored_as w) r ≡ Some s → place_of s ≡ named w
-    go None e = absurd (not_some s e)
-    go (Some r) e = ap place_of (sym (some_is (stored_as w r) s e))
+    go None e = absurd (none-some s e)
+    go (Some r) e = ap place_of (sym (same_Some (stored_as w r) s e))
 
 given_key : (w : Write) (s : Stored) → row_given w ≡ Some s → s.key.values ≡ w.key.values
 given_key w s h = ap (λ (p : Place). p.1) (given_place w s h)
@@ -80,8 +75,8 @@ given_stored : (shapes : Shapes) (w : Write) (s : Stored) → FitsWrite shapes w
 given_stored shapes w s f h = go w.row h f.3
   where
     go : (r : Option Row) → option_map (stored_as w) r ≡ Some s → IfSome r (FitsBoth f.0 w.key) → FitsStored shapes s
-    go None e g = absurd (not_some s e)
-    go (Some r) e g = subst (FitsStored shapes) (some_is (stored_as w r) s e) (f.0, f.1, f.2, g)
+    go None e g = absurd (none-some s e)
+    go (Some r) e g = subst (FitsStored shapes) (same_Some (stored_as w r) s e) (f.0, f.1, f.2, g)
 
 given_each : (shapes : Shapes) (ws : List Write) → FitWrites shapes ws → Each (λ w. (s : Stored) → row_given w ≡ Some s → FitsStored shapes s) ws
 given_each shapes ws f = each_map (FitsWrite shapes) (λ w. (s : Stored) → row_given w ≡ Some s → FitsStored shapes s) (λ w g s h. given_stored shapes w s g h) ws f

@@ -1,3 +1,4 @@
+//! The comparison of two values.
 ghost use Rattle.std.specs.Prelude.{◌≡◌};
 ghost use Rattle.pg_value.specs.Compare as spec;
 
@@ -19,12 +20,14 @@ pub fn compare(op: Cmp, a: &Value, b: &Value) -> Truth
     }
 }
 
+/// Whether a value is NULL.
 fn is_null(value: &Value) -> bool
     ensures { result ≡ spec.is_null value.now }
 {
     matches!(value, Value::Null)
 }
 
+/// Whether an order of two values meets the operator.
 fn meets(op: Cmp, order: Ordering) -> bool
     ensures { result ≡ spec.meets op order }
 {

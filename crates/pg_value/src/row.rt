@@ -1,3 +1,4 @@
+//! Rows and keys: their order, and copies of them.
 ghost use Rattle.std.specs.Prelude.{◌≡◌, IfOk};
 ghost use Rattle.pg_value.specs.Order.{row_cmp, key_cmp};
 
@@ -7,13 +8,13 @@ use std::alloc::{AllocError, Global};
 use std::cmp::Ordering;
 
 /// The values of a row, one for each column of its table, or for each column of a query's answer.
-#[derive(Debug, Drop)]
+#[derive(Drop)]
 pub struct Row {
     pub values: List<Value>,
 }
 
 /// The values of a row's key columns, in order of the key: 1 to 4, none of them NULL.
-#[derive(Debug, Drop)]
+#[derive(Drop)]
 pub struct Key {
     pub values: List<Value>,
 }
@@ -32,6 +33,7 @@ pub fn order_keys(a: &Key, b: &Key) -> Ordering
     order_lists(a.values.as_slice(), b.values.as_slice())
 }
 
+/// How two lists of values are ordered: by the first place at which they differ; the shorter is less where it is a front.
 fn order_lists(a: &[Value], b: &[Value]) -> Ordering
     ensures { result ≡ row_cmp a.now b.now }
 {
@@ -50,6 +52,7 @@ fn order_lists(a: &[Value], b: &[Value]) -> Ordering
     }
 }
 
+/// An equal list of values. Only want of memory refuses it.
 fn copy_values(alloc: Global, values: &[Value]) -> Result<List<Value>, AllocError>
     ensures { IfOk result (λ copy. copy ≡ values.now) }
 {

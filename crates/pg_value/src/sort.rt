@@ -1,3 +1,4 @@
+//! Rows in value order.
 ghost use Rattle.std.specs.Prelude.{◌≡◌, OnOk, OnErr};
 ghost use Rattle.std.proofs.Common.{refl};
 ghost use Rattle.std.specs.List.Sorted.{IsPermutation, IsSorted};

@@ -1,4 +1,6 @@
+//! Values: their kinds, their order and their printed form.
 ghost use Rattle.std.specs.Prelude.{◌≡◌, ◌++◌, IfOk, OnOk, OnErr};
+ghost use Rattle.pg_value.specs.Kinds as kinds;
 ghost use Rattle.pg_value.specs.Order.{value_cmp};
 ghost use Rattle.pg_value.specs.Print.{print_of};
 
@@ -7,15 +9,25 @@ use std::alloc::{AllocError, Global};
 use std::cmp::Ordering;
 
 /// The kind of a value that is not NULL: a number, a text or a truth value.
-#[derive(Clone, Copy, Debug, PartialEq, Eq)]
+#[derive(Clone, Copy)]
 pub enum Kind {
     Int,
     Text,
     Bool,
 }
 
+/// Whether two kinds are one.
+pub fn same_kind(a: Kind, b: Kind) -> bool
+    ensures { result ≡ kinds.same_kind a b }
+{
+    match (a, b) {
+        (Kind::Int, Kind::Int) | (Kind::Text, Kind::Text) | (Kind::Bool, Kind::Bool) => true,
+        _ => false,
+    }
+}
+
 /// A value of SQL, as a column holds it or as an expression gives it. Every kind has NULL.
-#[derive(Debug, Drop)]
+#[derive(Drop)]
 pub enum Value {
     Null,
     Int(i128),
@@ -32,7 +44,7 @@ pub enum Truth {
 }
 
 /// A comparison operator: `=`, `<>`, `<`, `<=`, `>`, `>=`.
-#[derive(Clone, Copy, Debug, PartialEq, Eq)]
+#[derive(Clone, Copy)]
 pub enum Cmp {
     Eq,
     Ne,
@@ -43,7 +55,7 @@ pub enum Cmp {
 }
 
 /// Which end of an edge a vertex is: `Out` where the edge leaves it, `In` where the edge arrives.
-#[derive(Clone, Copy, Debug, PartialEq, Eq)]
+#[derive(Clone, Copy)]
 pub enum Dir {
     Out,
     In,

@@ -1,16 +1,15 @@
-ghost use Rattle.std.specs.Prelude.{◌≡◌, [], length, slice_get, slice_index_or, ◌<◌, ◌-◌, IsTrue};
-ghost use Rattle.std.specs.declared.cmp.Ordering.TheVariants.{Less};
+//! Writes: what becomes of rows, the writes of a transaction, and the commits of a log.
+ghost use Rattle.std.specs.Prelude.{◌≡◌, [], length, slice_get};
 ghost use Rattle.std.specs.Option.{option_copied};
-ghost use Rattle.pg_value.specs.Order.{place_cmp};
-ghost use Rattle.pg_value.specs.Writes.{named, IsInOrder, Sought, Put};
+ghost use Rattle.pg_value.specs.Writes.{IsInOrder, Put};
 
-use crate::{Key, List, Row, TableNo, order_keys};
+use crate::seek::seek_write;
+use crate::{Key, List, Row, TableNo};
 use std::alloc::Global;
-use std::cmp::Ordering;
 use std::marker::Model;
 
 /// What becomes of the row of a table with a key: the row that it then is, or none where it is gone.
-#[derive(Debug, Drop)]
+#[derive(Drop)]
 pub struct Write {
     pub table: TableNo,
     pub key: Key,
@@ -18,7 +17,7 @@ pub struct Write {
 }
 
 /// A row that a table holds, beside its key.
-#[derive(Debug, Drop)]
+#[derive(Drop)]
 pub struct Stored {
     pub table: TableNo,
     pub key: Key,
@@ -26,7 +25,7 @@ pub struct Stored {
 }
 
 /// Why a write was not put. Either way it is handed back, and the writes are as before.
-#[derive(Debug, Drop)]
+#[derive(Drop)]
 pub enum PutFault {
     /// The key is new, and there are as many writes as the limit allows.
     Full(Write),
@@ -35,7 +34,7 @@ pub enum PutFault {
 }
 
 /// The writes of a transaction or a commit, in order of table and key, no place twice, with a limit on their number.
-#[derive(Debug, Drop)]
+#[derive(Drop)]
 pub struct Writes {
     list: List<Write>,
     limit: u64,
@@ -52,7 +51,7 @@ impl Model for Writes {
 }
 
 /// One commit of the log: the section that made it, by its number, the version that it had read, and what it wrote.
-#[derive(Debug, Drop)]
+#[derive(Drop)]
 pub struct Commit {
     pub session: u32,
     pub from: u64,
@@ -99,7 +98,7 @@ impl Writes {
     pub fn put(&mut self, write: Write) -> Result<(), PutFault>
         ensures { Put self.old self.new write result }
     {
-        match seek(self.list.as_slice(), &write) {
+        match seek_write(self.list.as_slice(), &write) {
             Ok(at) => {
                 self.list.set(at, write);
                 Ok(())
@@ -115,33 +114,4 @@ impl Writes {
             }
         }
     }
-}
-
-/// How the places of two writes are ordered: by table, then by key.
-fn order_places(a: &Write, b: &Write) -> Ordering
-    ensures { result ≡ place_cmp (named a.now) (named b.now) }
-{
-    match a.table.0.cmp(&b.table.0) {
-        Ordering::Equal => order_keys(&a.key, &b.key),
-        order => order,
-    }
-}
-
-fn ends_before(writes: &[Write], write: &Write) -> bool
-    ensures { IsTrue result → (d : Write) → 0 < length writes.now → place_cmp (named (slice_index_or writes.now (length writes.now - 1) d)) (named write.now) ≡ Less }
-{
-    match writes {
-        [.., last] => matches!(order_places(last, write), Ordering::Less),
-        [] => true,
-    }
-}
-
-fn seek(writes: &[Write], write: &Write) -> Result<usize, usize>
-    requires { IsInOrder writes.now }
-    ensures { Sought (named write.now) writes.now result }
-{
-    if ends_before(writes, write) {
-        return Err(writes.len());
-    }
-    writes.binary_search_by(|other| order_places(other, write))
 }

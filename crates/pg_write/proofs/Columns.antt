@@ -5,7 +5,7 @@ use Rattle.std.specs.declared.option.Option.TheVariants.{None}
 use Rattle.pg_value.specs.declared.value.Value.{Value}
 use Rattle.pg_value.specs.declared.shape.ColumnShape.{ColumnShape}
 use Rattle.pg_value.specs.declared.shape.TableShape.{TableShape}
-use Rattle.pg_ast.specs.InsertEffect.{column_fault}
+use Rattle.pg_rules.specs.Changes.InsertEffect.{column_fault}
 
 nothing : (shape : TableShape) (column : ℕ) (cs : List ColumnShape) → column_fault shape column cs [] ≡ None
 nothing shape column [] = refl

@@ -24,17 +24,18 @@ use Rattle.pg_value.specs.TablesLaws.{stored_in, stored_at_in}
 use Rattle.pg_value.specs.Writes.{named, write_at, merge, has, IsInOrder, Put, Limited}
 use Rattle.pg_ast.specs.declared.statement.Insert.{Insert}
 use Rattle.pg_ast.specs.declared.statement.InsertTuple.{InsertTuple}
-use Rattle.pg_ast.specs.declared.change.RowFault.{RowFault}
-use Rattle.pg_ast.specs.declared.change.RowFault.TheVariants as faults
-use Rattle.pg_ast.specs.InsertEffect.{write_of, column_fault, or_else, with_rows, row_fault, IsFirstFault, AreRight}
+use Rattle.pg_rules.specs.declared.fault.RowFault.{RowFault}
+use Rattle.pg_rules.specs.declared.fault.RowFault.TheVariants as faults
+use Rattle.pg_rules.specs.Changes.InsertEffect.{write_of, column_fault, or_else, with_rows, row_fault, IsFirstFault, AreRight}
 use Rattle.pg_write.specs.declared.fault.EffectFault.{EffectFault}
 use Rattle.pg_write.specs.declared.fault.EffectFault.TheVariants as effect
-use Rattle.pg_write.specs.PlainInsert.{Holds, Writes, Refuses, is_plain, rows_of}
-use Rattle.pg_write.specs.RowPasses.{put_fault, fault_behind, or_first, first_faulty, IsFirst, literal_row}
+use Rattle.pg_write.specs.PlainInsert.{Holds, Writes, Refuses, rows_of}
+use Rattle.pg_rules.specs.Changes.PlainInsert.{is_plain}
+use Rattle.pg_write.specs.FaultyRows.{is_there, limit_fault, put_fault, fault_behind, or_first, first_faulty, IsFirst, literal_row}
 use Rattle.pg_write.proofs.Loops.{drop_at}
 use Rattle.pg_write.proofs.RowLaws.{plain_rows}
 
--- ---- one row more
+-- ONE ROW MORE
 
 pub one_more : (table : TableNo) (shape : TableShape) (writes : List Write) (rows : List Row) (r : Row) → with_rows table shape writes (rows ++ r ∷ []) ≡ merge (with_rows table shape writes rows) (write_of table shape r ∷ [])
 one_more table shape writes rows r = fold-append (λ ws row. merge ws (write_of table shape row ∷ [])) writes rows (r ∷ [])
@@ -109,7 +110,7 @@ module _ (limit : ℕ) (table : TableNo) (shape : TableShape) (held : List Store
   refused rows o effect.Memory s h = tt
   refused rows o (effect.Row number f) s h = λ tables holds. first_is tables holds rows number f (sym s ∙ h)
 
--- ---- how many writes there are
+-- HOW MANY WRITES THERE ARE
 
 -- a row without a fault has a new place
 new_of : (c : Option RowFault) (d : Bool) (m : Option RowFault) → or_else c (or_else (cond d (Some faults.Duplicate) None) m) ≡ None → d ≡ false
@@ -154,7 +155,7 @@ module _ (limit : ℕ) (table : TableNo) (shape : TableShape) (held : List Store
     counted = ap length s ∙ counted [] rows 0 tt h ∙ omega arith;
   }
 
--- ---- one turn of the walk over the tuples
+-- ONE TURN OF THE WALK OVER THE TUPLES
 
 module _ (limit : ℕ) (table : TableNo) (shape : TableShape) (held : List Stored) where
   abbrev walk : List Write → ℕ → List InsertTuple → Option (ℕ × RowFault)
@@ -181,30 +182,34 @@ module _ (limit : ℕ) (table : TableNo) (shape : TableShape) (held : List Store
   pub written_on : (writes : List Write) (i : ℕ) (ts : List InsertTuple) (t : InsertTuple) → i < length ts → t ≡ get_or ts i t → with_rows table shape writes (map (literal_row shape) (drop i ts)) ≡ with_rows table shape (put_on writes t) (map (literal_row shape) (drop (i + 1) ts))
   written_on writes i ts t inside is = ap (λ l. with_rows table shape writes (map (literal_row shape) l)) (drop_at ts i t inside is)
 
--- ---- the put of a write
+-- THE PUT OF A WRITE
 
 or_true : (o : Option Write) → is_some o ≡ false → is_some o ≡ true → ⊥
 or_true o f t = absurd (both_ways (is_some o) f t)
 
 -- a new write is put where the limit is not reached
-pub fits : (limit : ℕ) (held : List Stored) (writes : List Write) (w : Write) → is_some (stored_in w.key.values held) ≡ false → is_some (write_at (named w) writes) ≡ false → IsInOrder writes → (has (named w) writes ≡ true) ⊎ (length writes < limit) → put_fault limit held writes w ≡ None
-fits limit held writes w f g a (inl t) = absurd (or_true (write_at (named w) writes) g t)
-fits limit held writes w f g a (inr l) =
-    ap (λ b. or_else (cond (b || is_some (write_at (named w) writes)) (Some faults.Duplicate) None) (cond (nat_lt limit (length (merge writes (w ∷ [])))) (Some faults.TooManyWrites) None)) f
-    ∙ ap (λ b. or_else (cond b (Some faults.Duplicate) None) (cond (nat_lt limit (length (merge writes (w ∷ [])))) (Some faults.TooManyWrites) None)) g
-    ∙ ap (λ b. cond b (Some faults.TooManyWrites) None) (le-ltb limit (length (merge writes (w ∷ []))) (omega (arith, longer writes w a (nothing_of (write_at (named w) writes) g))))
+pub fits : (limit : ℕ) (writes : List Write) (w : Write) → is_some (write_at (named w) writes) ≡ false → IsInOrder writes → (has (named w) writes ≡ true) ⊎ (length writes < limit) → limit_fault limit writes w ≡ None
+fits limit writes w g a (inl t) = absurd (or_true (write_at (named w) writes) g t)
+fits limit writes w g a (inr l) =
+    ap (λ b. cond b (Some faults.TooManyWrites) None) (le-ltb limit (length (merge writes (w ∷ []))) (omega (arith, longer writes w a (nothing_of (write_at (named w) writes) g))))
 
 -- and else is one too many
-pub full : (limit : ℕ) (held : List Stored) (writes : List Write) (w : Write) → is_some (stored_in w.key.values held) ≡ false → is_some (write_at (named w) writes) ≡ false → IsInOrder writes → limit ≤ length writes → put_fault limit held writes w ≡ Some faults.TooManyWrites
-full limit held writes w f g a l =
-    ap (λ b. or_else (cond (b || is_some (write_at (named w) writes)) (Some faults.Duplicate) None) (cond (nat_lt limit (length (merge writes (w ∷ [])))) (Some faults.TooManyWrites) None)) f
-    ∙ ap (λ b. or_else (cond b (Some faults.Duplicate) None) (cond (nat_lt limit (length (merge writes (w ∷ [])))) (Some faults.TooManyWrites) None)) g
-    ∙ ap (λ b. cond b (Some faults.TooManyWrites) None) (lt-ltb limit (length (merge writes (w ∷ []))) (omega (arith, longer writes w a (nothing_of (write_at (named w) writes) g))))
+pub full : (limit : ℕ) (writes : List Write) (w : Write) → is_some (write_at (named w) writes) ≡ false → IsInOrder writes → limit ≤ length writes → limit_fault limit writes w ≡ Some faults.TooManyWrites
+full limit writes w g a l =
+    ap (λ b. cond b (Some faults.TooManyWrites) None) (lt-ltb limit (length (merge writes (w ∷ []))) (omega (arith, longer writes w a (nothing_of (write_at (named w) writes) g))))
+
+-- a key that is not there has no write
+pub no_write : (held : List Stored) (writes : List Write) (w : Write) → is_there held writes w ≡ false → is_some (write_at (named w) writes) ≡ false
+no_write held writes w h = right_of (is_some (stored_in w.key.values held)) (is_some (write_at (named w) writes)) h
+
+-- and no fault but that of the limit
+pub only_limit : (limit : ℕ) (held : List Stored) (writes : List Write) (w : Write) → is_there held writes w ≡ false → limit_fault limit writes w ≡ put_fault limit held writes w
+only_limit limit held writes w h = sym (ap (λ b. or_else (cond b (Some faults.Duplicate) None) (limit_fault limit writes w)) h)
 
 pub when_full : (old new : Limited) (w back : Write) (e : PutFault) → e ≡ Full back → Put old new w (Err e) → old.limit ≤ length old.list
 when_full old new w back e q h = (subst (λ x. Put old new w (Err x)) q h).3
 
--- ---- the write of a row
+-- THE WRITE OF A ROW
 
 pub write_is : (table : TableNo) (shape : TableShape) (row r : Row) (key : Key) → row ≡ r → key.values ≡ pick shape.key row.values → record { table = table; key = key; row = Some row } ≡ write_of table shape r
 write_is table shape row r key e k = let q : key.values ≡ pick shape.key r.values = k ∙ ap (λ x. pick shape.key x.values) e in λ i. record { table = table; key = record { values = q i }; row = Some (e i) }
@@ -214,7 +219,7 @@ behind limit table shape held writes row r key e k n =
     ap (put_fault limit held writes) (write_is table shape row r key e k)
     ∙ sym (ap (λ o. or_else o (put_fault limit held writes (write_of table shape r))) (sym (ap (λ x. column_fault shape 0 shape.columns x.values) e) ∙ n))
 
--- ---- the statement
+-- THE STATEMENT
 
 module _ (limit most : ℕ) (table : TableNo) (shape : TableShape) (held : List Stored) (i : Insert) (ts : List InsertTuple) (start : List Write) where
   abbrev told : Option (ℕ × RowFault)

@@ -4,3 +4,4 @@ mod Loops
 mod ValueLaws
 mod RowLaws
 mod EffectLaws
+pub mod FitLaws

@@ -4,10 +4,10 @@ use Rattle.std.specs.declared.option.Option.TheVariants.{None}
 use Rattle.pg_value.specs.declared.value.Value.{Value}
 use Rattle.pg_value.specs.declared.value.Value.TheVariants.{Null}
 use Rattle.pg_ast.specs.declared.expr.Expr.{Expr, Lit, TooWide, Column, Property, Unary', Binary', Agg', CountVar, more_of-Expr, end_of-Expr}
-use Rattle.pg_ast.specs.Exprs.{tree_of}
-use Rattle.pg_write.specs.PlainInsert.{is_literal}
-use Rattle.pg_write.specs.ValuePasses.{literal_kind, wide_literal}
-use Rattle.pg_write.specs.RowPasses.{literal_value}
+use Rattle.pg_ast.specs.Trees.{tree_of}
+use Rattle.pg_rules.specs.Changes.PlainInsert.{is_literal}
+use Rattle.pg_write.specs.LiteralFaults.{literal_kind, wide_literal}
+use Rattle.pg_write.specs.FaultyRows.{literal_value}
 
 -- what is found of an expression that is no literal
 pub otherwise : (e : Expr) → ((v : Value) (bits at : ℕ) → e ≡ Lit v bits at → ⊥) → ((at : ℕ) → e ≡ TooWide at → ⊥) → (is_literal (tree_of e) ≡ false) × (literal_kind (tree_of e) ≡ None) × (wide_literal (tree_of e) ≡ [])

@@ -8,11 +8,12 @@ use Rattle.pg_value.specs.declared.shape.TableShape.{TableShape}
 use Rattle.pg_ast.specs.declared.expr.Whole.{Whole}
 use Rattle.pg_ast.specs.declared.statement.Insert.{Insert}
 use Rattle.pg_ast.specs.declared.statement.InsertTuple.{InsertTuple}
-use Rattle.pg_ast.specs.Exprs.{ExprTree, tree_of, Literal, Wide, ColumnOf, PropertyOf, One, Two, Group, Counted}
-use Rattle.pg_ast.specs.InsertJudgement.{resolved, resolved_tuple}
-use Rattle.pg_ast.specs.InsertEffect.{plain_value, given, row_of}
-use Rattle.pg_write.specs.PlainInsert.{is_literal, has_literals, is_plain, all_columns, rows_of}
-use Rattle.pg_write.specs.RowPasses.{literal_value, value_at, literal_row}
+use Rattle.pg_ast.specs.Trees.{ExprTree, tree_of, Literal, Wide, ColumnOf, PropertyOf, One, Two, Group, Counted}
+use Rattle.pg_rules.specs.Changes.InsertJudgement.{resolved, resolved_tuple}
+use Rattle.pg_rules.specs.Changes.InsertEffect.{plain_value, given, row_of}
+use Rattle.pg_rules.specs.Changes.PlainInsert.{is_literal, has_literals, is_plain}
+use Rattle.pg_write.specs.PlainInsert.{all_columns, rows_of}
+use Rattle.pg_write.specs.FaultyRows.{literal_value, value_at, literal_row}
 
 no_literal : {P : Type 0} → false ≡ true → P
 no_literal h = absurd cc

@@ -17,31 +17,33 @@ use Rattle.pg_ast.specs.declared.expr.Name.{Name}
 use Rattle.pg_ast.specs.declared.expr.Whole.{Whole}
 use Rattle.pg_ast.specs.declared.statement.Insert.{Insert}
 use Rattle.pg_ast.specs.declared.statement.InsertTuple.{InsertTuple}
-use Rattle.pg_ast.specs.declared.entry.ColumnEntry.{ColumnEntry}
-use Rattle.pg_ast.specs.declared.entry.TableEntry.{TableEntry}
-use Rattle.pg_ast.specs.declared.fault.ResolveFault.{ResolveFault}
-use Rattle.pg_ast.specs.declared.fault.ResolveFault.TheVariants as faults
-use Rattle.pg_ast.specs.Exprs.{ExprTree, tree_of, Literal, Wide, ColumnOf, PropertyOf, One, Two, Group, Counted}
-use Rattle.pg_ast.specs.CatalogEntries.{Tables, Defined}
-use Rattle.pg_ast.specs.CatalogLookUps.{table_in, table_at, table_number, columns_named, columns_in as entries_in}
-use Rattle.pg_ast.specs.EntryShapes as entry
-use Rattle.pg_ast.specs.EntryShapes.{table_shapes, table_shape}
-use Rattle.pg_ast.specs.FaultPlaces.{place_if, first_fault, fault_at, least}
-use Rattle.pg_ast.specs.TableJudgement.{repeats}
-use Rattle.pg_ast.specs.GraphEntries.{kind_at, kind_in}
-use Rattle.pg_ast.specs.GraphJudgement.{missing, no_such}
-use Rattle.pg_ast.specs.Typing.{kind_of, may_be, types_at, wide_at}
-use Rattle.pg_ast.specs.InsertJudgement as judged
-use Rattle.pg_ast.specs.InsertJudgement.{insert_fault, targets, targets_in, listed, wrong_value, wrong_values}
-use Rattle.pg_write.specs.PlainInsert.{is_literal, has_literals, is_plain, IsFound}
-use Rattle.pg_write.specs.ValuePasses.{columns_in, shapes_of, literal_kind, wrong_literal, wrong_in, wrong_from, wide_literal, wide_in, miscounted, tuples_fault}
+use Rattle.pg_rules.specs.declared.entry.ColumnEntry.{ColumnEntry}
+use Rattle.pg_rules.specs.declared.entry.TableEntry.{TableEntry}
+use Rattle.pg_rules.specs.declared.fault.ResolveFault.{ResolveFault}
+use Rattle.pg_rules.specs.declared.fault.ResolveFault.TheVariants as faults
+use Rattle.pg_ast.specs.Trees.{ExprTree, tree_of, Literal, Wide, ColumnOf, PropertyOf, One, Two, Group, Counted}
+use Rattle.pg_rules.specs.Catalog.{Tables, Defined}
+use Rattle.pg_rules.specs.Catalog.LookUps.{table_in, table_at, table_number, columns_named, columns_in as entries_in}
+use Rattle.pg_rules.specs.Catalog.Shapes as entry
+use Rattle.pg_rules.specs.Catalog.Shapes.{table_shapes, table_shape}
+use Rattle.pg_rules.specs.Places.{place_if, first_fault, fault_at, least}
+use Rattle.pg_rules.specs.Definitions.Tables.{repeats}
+use Rattle.pg_rules.specs.Definitions.Entries.{kind_at, kind_in}
+use Rattle.pg_rules.specs.Definitions.Graphs.{missing, no_such}
+use Rattle.pg_meaning.specs.Typing.{no_names, kind_of, may_be}
+use Rattle.pg_rules.specs.ExprFaults.{types_at, wide_at}
+use Rattle.pg_rules.specs.Changes.InsertJudgement as judged
+use Rattle.pg_rules.specs.Changes.InsertJudgement.{insert_fault, targets, targets_in, listed, wrong_value, wrong_values}
+use Rattle.pg_rules.specs.Changes.PlainInsert.{is_literal, has_literals, is_plain}
+use Rattle.pg_write.specs.PlainInsert.{IsFound}
+use Rattle.pg_write.specs.LiteralFaults.{columns_in, shapes_of, literal_kind, wrong_literal, wrong_in, wrong_from, wide_literal, wide_in, miscounted, tuples_fault}
 
--- ---- one literal
+-- ONE LITERAL
 
 no_literal : {P : Type 0} → false ≡ true → P
 no_literal h = absurd cc
 
-kind_same : (t : ExprTree) → is_literal t ≡ true → kind_of [] t ≡ literal_kind t
+kind_same : (t : ExprTree) → is_literal t ≡ true → kind_of no_names t ≡ literal_kind t
 kind_same (Literal v bits at) h = refl
 kind_same (Wide at) h = refl
 kind_same (ColumnOf n) h = no_literal h
@@ -51,7 +53,7 @@ kind_same (Two op x y at) h = no_literal h
 kind_same (Group agg x at) h = no_literal h
 kind_same (Counted v at) h = no_literal h
 
-types_none : (t : ExprTree) → is_literal t ≡ true → types_at [] t ≡ []
+types_none : (t : ExprTree) → is_literal t ≡ true → types_at no_names t ≡ []
 types_none (Literal v bits at) h = refl
 types_none (Wide at) h = refl
 types_none (ColumnOf n) h = no_literal h
@@ -61,7 +63,7 @@ types_none (Two op x y at) h = no_literal h
 types_none (Group agg x at) h = no_literal h
 types_none (Counted v at) h = no_literal h
 
-wide_same : (t : ExprTree) → is_literal t ≡ true → wide_at [] t ≡ wide_literal t
+wide_same : (t : ExprTree) → is_literal t ≡ true → wide_at no_names t ≡ wide_literal t
 wide_same (Literal v bits at) h = refl
 wide_same (Wide at) h = refl
 wide_same (ColumnOf n) h = no_literal h
@@ -73,11 +75,11 @@ wide_same (Counted v at) h = no_literal h
 
 wrong_same : (kind : Kind) (w : Whole) → is_literal (tree_of w.expr) ≡ true → wrong_value kind w ≡ wrong_literal kind w
 wrong_same kind w h =
-    ap (λ ps. place_if (not (may_be kind (kind_of [] (tree_of w.expr)))) w.at ++ ps) (types_none (tree_of w.expr) h)
-    ∙ append-nil (place_if (not (may_be kind (kind_of [] (tree_of w.expr)))) w.at)
+    ap (λ ps. place_if (not (may_be kind (kind_of no_names (tree_of w.expr)))) w.at ++ ps) (types_none (tree_of w.expr) h)
+    ∙ append-nil (place_if (not (may_be kind (kind_of no_names (tree_of w.expr)))) w.at)
     ∙ ap (λ k. place_if (not (may_be kind k)) w.at) (kind_same (tree_of w.expr) h)
 
--- ---- a tuple
+-- A TUPLE
 
 abbrev literal : Whole → Bool
 literal w = is_literal (tree_of w.expr)
@@ -109,14 +111,14 @@ tuple_same columns s (suc n) (w ∷ ws) e h =
     ap (λ ps. ps ++ wrong_values columns (range_with_len (s + 1) n) ws) (wrong_at (slice_get columns s) w s columns refl (omega arith) k.0)
     ∙ ap (λ ps. wrong_in (slice_get (shapes_of columns) s) w ++ ps) (tuple_same columns (s + 1) n ws (omega arith) k.1)
 
-wide_values : (ws : List Whole) → list_all literal ws ≡ true → flat_map (λ w. wide_at [] (tree_of w.expr)) ws ≡ wide_in ws
+wide_values : (ws : List Whole) → list_all literal ws ≡ true → flat_map (λ w. wide_at no_names (tree_of w.expr)) ws ≡ wide_in ws
 wide_values [] h = refl
 wide_values (w ∷ ws) h =
     let k = and_parts (literal w) (list_all literal ws) h in
-    ap (λ ps. ps ++ flat_map (λ w. wide_at [] (tree_of w.expr)) ws) (wide_same (tree_of w.expr) k.0)
+    ap (λ ps. ps ++ flat_map (λ w. wide_at no_names (tree_of w.expr)) ws) (wide_same (tree_of w.expr) k.0)
     ∙ ap (λ ps. wide_literal (tree_of w.expr) ++ ps) (wide_values ws k.1)
 
--- ---- all tuples
+-- ALL TUPLES
 
 types_same : (columns : List ColumnEntry) (ts : List InsertTuple) → list_all has_literals ts ≡ true → flat_map (λ t. wrong_values columns (range_with_len 0 (length columns)) t.values) ts ≡ flat_map (λ t. wrong_from (shapes_of columns) 0 t.values) ts
 types_same columns [] h = refl
@@ -125,14 +127,14 @@ types_same columns (t ∷ ts) h =
     ap (λ ps. ps ++ flat_map (λ t. wrong_values columns (range_with_len 0 (length columns)) t.values) ts) (tuple_same columns 0 (length columns) t.values (omega arith) k.0)
     ∙ ap (λ ps. wrong_from (shapes_of columns) 0 t.values ++ ps) (types_same columns ts k.1)
 
-wide_tuples : (ts : List InsertTuple) → list_all has_literals ts ≡ true → flat_map (λ t. flat_map (λ w. wide_at [] (tree_of w.expr)) t.values) ts ≡ flat_map (λ t. wide_in t.values) ts
+wide_tuples : (ts : List InsertTuple) → list_all has_literals ts ≡ true → flat_map (λ t. flat_map (λ w. wide_at no_names (tree_of w.expr)) t.values) ts ≡ flat_map (λ t. wide_in t.values) ts
 wide_tuples [] h = refl
 wide_tuples (t ∷ ts) h =
     let k = and_parts (has_literals t) (list_all has_literals ts) h in
-    ap (λ ps. ps ++ flat_map (λ t. flat_map (λ w. wide_at [] (tree_of w.expr)) t.values) ts) (wide_values t.values k.0)
+    ap (λ ps. ps ++ flat_map (λ t. flat_map (λ w. wide_at no_names (tree_of w.expr)) t.values) ts) (wide_values t.values k.0)
     ∙ ap (λ ps. wide_in t.values ++ ps) (wide_tuples ts k.1)
 
--- ---- the statement
+-- THE STATEMENT
 
 none_is : (o : Option (List Name)) → is_none o ≡ true → o ≡ None
 none_is None h = refl
@@ -199,7 +201,7 @@ columns_same tables name k found =
     ∙ shape_columns (slice_get tables k)
     ∙ sym (ap (λ o. shapes_of (entries_in (option_and_then (slice_get tables) o))) found)
 
--- ---- a fault of the tuples is one that is found
+-- A FAULT OF THE TUPLES IS ONE THAT IS FOUND
 
 is_some_at : (g : ℕ → ResolveFault) (later : Option ResolveFault) (o : Option ℕ) → ((at : ℕ) → (g at ≡ faults.Memory) → ⊥) → (later ≡ Some faults.Memory → ⊥) → fault_at g o later ≡ Some faults.Memory → ⊥
 is_some_at g later None a b h = b h
@@ -220,7 +222,7 @@ is_found columns ts o (faults.KeyUpdate at) e h = e ∙ h
 is_found columns ts o (faults.Types at) e h = e ∙ h
 is_found columns ts o (faults.Wide at) e h = e ∙ h
 
--- ---- the whole
+-- THE WHOLE
 
 number_found : (o : Option ℕ) (t : TableNo) → option_map table_number o ≡ Some t → o ≡ Some t.0
 number_found None t h = absurd cc

@@ -1,5 +1,4 @@
 pub mod PlainInsert
-pub mod ValuePasses
-pub mod RowPasses
+pub mod LiteralFaults
+pub mod FaultyRows
 pub mod WritesFit
-pub mod FitLaws

@@ -1,40 +1,21 @@
 -- An INSERT without a list of columns whose values are all literals: which are such, and what one does to the rows of its table.
-use Rattle.std.specs.Prelude.{ℕ, ◌≡◌, Bool, true, false, ◌&&◌, is_none, List, [], map, length}
+use Rattle.std.specs.Prelude.{ℕ, ◌≡◌, List, [], map, length}
 use Rattle.std.specs.declared.option.Option.{Option}
 use Rattle.std.specs.declared.option.Option.TheVariants.{Some}
-use Rattle.std.specs.List.{list_all, range_with_len}
+use Rattle.std.specs.List.{range_with_len}
 use Rattle.pg_value.specs.declared.row.Row.{Row}
 use Rattle.pg_value.specs.declared.shape.TableNo.{TableNo}
 use Rattle.pg_value.specs.declared.shape.TableShape.{TableShape}
 use Rattle.pg_value.specs.declared.write.Write.{Write}
 use Rattle.pg_value.specs.Tables.{Stored, Tables, IsInOrder, held_in}
 use Rattle.pg_ast.specs.declared.statement.Insert.{Insert}
-use Rattle.pg_ast.specs.declared.statement.InsertTuple.{InsertTuple}
-use Rattle.pg_ast.specs.declared.fault.ResolveFault.{ResolveFault}
-use Rattle.pg_ast.specs.declared.fault.ResolveFault.TheVariants as faults
-use Rattle.pg_ast.specs.Exprs.{ExprTree, tree_of, Literal, Wide, ColumnOf, PropertyOf, One, Two, Group, Counted}
-use Rattle.pg_ast.specs.InsertJudgement.{resolved_tuple}
-use Rattle.pg_ast.specs.InsertEffect.{row_of, with_rows, AreRight, IsFirstFault}
+use Rattle.pg_rules.specs.declared.fault.ResolveFault.{ResolveFault}
+use Rattle.pg_rules.specs.declared.fault.ResolveFault.TheVariants as faults
+use Rattle.pg_ast.specs.Trees.{Wide}
+use Rattle.pg_rules.specs.Changes.InsertJudgement.{resolved_tuple}
+use Rattle.pg_rules.specs.Changes.InsertEffect.{row_of, with_rows, AreRight, IsFirstFault}
 use Rattle.pg_write.specs.declared.fault.EffectFault.{EffectFault}
 use Rattle.pg_write.specs.declared.fault.EffectFault.TheVariants as effect
-
--- a number, a text, TRUE, FALSE or NULL, also where no value holds the number
-abbrev pub is_literal : ExprTree → Bool
-is_literal (Literal v bits at) = true
-is_literal (Wide at) = true
-is_literal (ColumnOf n) = false
-is_literal (PropertyOf v n) = false
-is_literal (One op x at) = false
-is_literal (Two op x y at) = false
-is_literal (Group agg x at) = false
-is_literal (Counted v at) = false
-
-abbrev pub has_literals : InsertTuple → Bool
-has_literals t = list_all (λ w. is_literal (tree_of w.expr)) t.values
-
--- no list of columns, and literals alone
-abbrev pub is_plain : Insert → Bool
-is_plain i = is_none i.columns && list_all has_literals i.tuples
 
 -- the fault that was found; want of memory is none
 abbrev pub IsFound : Option ResolveFault → ResolveFault → Type 0
@@ -59,6 +40,11 @@ rows_of shape i = map (λ t. row_of shape (all_columns shape) (resolved_tuple t)
 pub record Holds (table : TableNo) (held : List Stored) (tables : Tables) : Type 0 where
   pub in_order : IsInOrder tables
   pub of_table : held_in table tables ≡ held
+
+-- there are such tables
+pub record IsHeld (table : TableNo) (held : List Stored) : Type 0 where
+  pub tables : Tables
+  pub holds : Holds table held tables
 
 -- over any tables that hold these rows, no row has a fault, and these are the writes
 pub record Writes (limit : ℕ) (table : TableNo) (shape : TableShape) (held : List Stored) (rows : List Row) (writes : List Write) : Type 0 where

@@ -6,11 +6,12 @@ use Rattle.pg_value.specs.declared.shape.TableShape.{TableShape}
 use Rattle.pg_value.specs.declared.write.Write.{Write}
 use Rattle.pg_value.specs.Tables.{Stored, Tables, FitWrites}
 use Rattle.pg_ast.specs.declared.statement.Insert.{Insert}
-use Rattle.pg_ast.specs.CatalogEntries.{Defined}
-use Rattle.pg_ast.specs.EntryShapes.{shapes}
-use Rattle.pg_ast.specs.GraphEntries.{number_of}
-use Rattle.pg_ast.specs.InsertJudgement.{insert_fault}
-use Rattle.pg_write.specs.PlainInsert.{is_plain, rows_of, Holds, Writes}
+use Rattle.pg_rules.specs.Catalog.{Defined}
+use Rattle.pg_rules.specs.Catalog.Shapes.{shapes}
+use Rattle.pg_rules.specs.Definitions.Entries.{number_of}
+use Rattle.pg_rules.specs.Changes.InsertJudgement.{insert_fault}
+use Rattle.pg_rules.specs.Changes.PlainInsert.{is_plain}
+use Rattle.pg_write.specs.PlainInsert.{rows_of, Holds, Writes}
 
 -- literals alone, without a list of columns, and no fault that is found before the tables are read
 pub record IsResolved (d : Defined) (i : Insert) : Type 0 where

@@ -1,9 +1,9 @@
 //! What is wrong with the values of a row, column by column.
 ghost use Rattle.std.specs.Prelude.{◌≡◌, ◌<◌, ◌^◌, length};
 ghost use Rattle.pg_value.specs.declared.value.Value.TheVariants as values;
-ghost use Rattle.pg_ast.specs.InsertEffect as spec;
+ghost use Rattle.pg_rules.specs.Changes.InsertEffect as spec;
 
-use pg_ast::RowFault;
+use pg_rules::RowFault;
 use pg_value::{ColumnShape, TableShape, Value};
 
 /// The least and the greatest INTEGER.
@@ -41,6 +41,7 @@ fn size_fault(column: &ColumnShape, value: &Value, place: u32) -> Option<RowFaul
     }
 }
 
+/// Whether a value is NULL.
 fn is_null(value: &Value) -> bool
     ensures { result ≡ spec.is_null value.now }
 {
@@ -64,6 +65,7 @@ fn null_fault(is_key: bool, column: &ColumnShape, value: &Value, place: u32) -> 
     }
 }
 
+/// Whether the column at a place is a key column.
 fn is_key(shape: &TableShape, place: u32) -> bool
     ensures { result ≡ spec.is_key shape.now place }
 {
@@ -75,6 +77,7 @@ fn is_key(shape: &TableShape, place: u32) -> bool
     false
 }
 
+/// What is wrong with a value in the column at a place.
 fn value_fault(
     shape: &TableShape,
     column: &ColumnShape,
@@ -97,6 +100,7 @@ pub fn column_fault(shape: &TableShape, row: &[Value]) -> Option<RowFault>
     column_fault_in(shape, shape.columns.as_slice(), row)
 }
 
+/// The first fault of a row's values in some columns of a table, which are its first.
 fn column_fault_in(shape: &TableShape, columns: &[ColumnShape], row: &[Value]) -> Option<RowFault>
     requires { length columns.now < 2 ^ 32 }
     ensures { result ≡ spec.column_fault shape.now 0 columns.now row.now }

@@ -1,18 +1,20 @@
 //! The writes of an INSERT of literals over the rows of its table, or its first faulty row.
-ghost use Rattle.std.specs.Prelude.{◌≡◌, ◌<◌, ◌^◌, ◌∷◌, [], true, None, length, map, IsTrue, IfOk, IfErr, OnOk};
+ghost use Rattle.std.specs.Prelude.{◌≡◌, ◌↔◌, ◌<◌, ◌^◌, ◌∷◌, [], true, None, length, map, IsTrue, IfOk, IfErr, OnOk};
 ghost use Rattle.pg_keyed.specs.Keyed.{Ascends};
 ghost use Rattle.pg_value.specs.Order.{key_cmp};
 ghost use Rattle.pg_value.specs.TablesLaws.{key_of};
 ghost use Rattle.pg_value.specs.Writes.{merge};
-ghost use Rattle.pg_ast.specs.InsertEffect.{write_of, with_rows};
+ghost use Rattle.pg_rules.specs.Changes.InsertEffect.{write_of, with_rows};
+ghost use Rattle.pg_rules.specs.Changes.PlainInsert.{is_plain};
 ghost use Rattle.pg_write.specs.PlainInsert as spec;
-ghost use Rattle.pg_write.specs.RowPasses as passes;
+ghost use Rattle.pg_write.specs.FaultyRows as passes;
 
 use crate::EffectFault;
 use crate::column::column_fault;
 use crate::put::put_new;
 use crate::row::{key_of, literal_row};
-use pg_ast::{Insert, InsertTuple, RowFault};
+use pg_ast::{Insert, InsertTuple};
+use pg_rules::RowFault;
 use pg_value::{Stored, TableNo, TableShape, Write, Writes};
 use std::alloc::{AllocError, Global};
 
@@ -77,7 +79,7 @@ fn insert_tuples(
 
 /// Whether the places of a table's columns are numbers of 32 bits, as they are in every table that there is memory for.
 fn is_narrow(shape: &TableShape) -> bool
-    ensures { IsTrue result → length shape.now.columns < 2 ^ 32 }
+    ensures { IsTrue result ↔ (length shape.now.columns < 2 ^ 32) }
 {
     shape.columns.len() <= u32::MAX as usize
 }
@@ -96,8 +98,9 @@ pub fn insert_rows(
     held: &[Stored],
     insert: &Insert,
 ) -> Result<Writes, EffectFault>
-    requires plain { spec.is_plain insert.now ≡ true }
+    requires plain { is_plain insert.now ≡ true }
     requires ascends { Ascends key_of key_cmp held.now }
+    requires held { spec.IsHeld table held.now }
     ensures written { IfOk result (λ w. spec.Writes limit table shape.now held.now (spec.rows_of shape.now insert.now) w.list) }
     ensures fault { IfErr result (spec.Refuses limit table shape.now held.now (spec.rows_of shape.now insert.now)) }
     ensures limit { IfOk result (λ w. w.limit ≡ limit) }

@@ -6,13 +6,10 @@ mod column;
 mod effect;
 mod fault;
 mod laws;
-mod least;
 mod plain;
 mod put;
 mod resolve;
 mod row;
-#[cfg(test)]
-mod tests;
 
 pub use effect::insert_rows;
 pub use fault::EffectFault;

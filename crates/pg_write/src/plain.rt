@@ -1,11 +1,12 @@
 //! Which INSERT has no list of columns, and literals alone.
 ghost use Rattle.std.specs.Prelude.{◌≡◌};
 ghost use Rattle.std.specs.List.{list_all};
-ghost use Rattle.pg_ast.specs.Exprs.{tree_of};
-ghost use Rattle.pg_write.specs.PlainInsert as spec;
+ghost use Rattle.pg_ast.specs.Trees.{tree_of};
+ghost use Rattle.pg_rules.specs.Changes.PlainInsert as spec;
 
 use pg_ast::{Expr, Insert, InsertTuple, Whole};
 
+/// Whether an expression is a literal.
 fn is_literal(expr: &Expr) -> bool
     ensures { result ≡ spec.is_literal (tree_of expr.now) }
 {
@@ -15,6 +16,7 @@ fn is_literal(expr: &Expr) -> bool
     }
 }
 
+/// Whether all values of a tuple are literals.
 fn are_literals(values: &[Whole]) -> bool
     ensures { result ≡ list_all (λ w. spec.is_literal (tree_of w.expr)) values.now }
 {
@@ -26,6 +28,7 @@ fn are_literals(values: &[Whole]) -> bool
     true
 }
 
+/// Whether all values of all tuples are literals.
 fn have_literals(tuples: &[InsertTuple]) -> bool
     ensures { result ≡ list_all spec.has_literals tuples.now }
 {

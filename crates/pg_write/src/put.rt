@@ -1,17 +1,18 @@
 //! Whether the key of a new row is there already, and the put of its write.
-ghost use Rattle.std.specs.Prelude.{◌≡◌, ◌<◌, ◌-◌, [], ◌∷◌, length, slice_index_or, is_some, IsTrue, IfOk, None};
+ghost use Rattle.std.specs.Prelude.{◌≡◌, ◌<◌, ◌-◌, [], ◌∷◌, length, slice_index_or, is_some, IsTrue, IfOk, None, false};
 ghost use Rattle.std.specs.declared.cmp.Ordering.TheVariants.{Less};
 ghost use Rattle.pg_keyed.specs.Keyed.{Ascends, Sought};
 ghost use Rattle.pg_value.specs.Order.{key_cmp, place_cmp};
 ghost use Rattle.pg_value.specs.TablesLaws.{key_of, stored_in};
 ghost use Rattle.pg_value.specs.Writes.{named, write_at, IsInOrder, merge};
-ghost use Rattle.pg_write.specs.RowPasses as spec;
+ghost use Rattle.pg_write.specs.FaultyRows as spec;
 
-use pg_ast::RowFault;
+use pg_rules::RowFault;
 use pg_value::{Key, PutFault, Stored, Write, Writes, order_keys};
 use std::alloc::AllocError;
 use std::cmp::Ordering;
 
+/// Whether a key is behind those of all rows that are held in order.
 fn are_before(held: &[Stored], key: &Key) -> bool
     ensures { IsTrue result → (d : Stored) → 0 < length held.now → key_cmp (key_of (slice_index_or held.now (length held.now - 1) d)) key.now.values ≡ Less }
 {
@@ -50,6 +51,7 @@ fn order_places(a: &Write, b: &Write) -> Ordering
     }
 }
 
+/// Whether a write is behind all writes in order.
 fn ends_before(writes: &[Write], write: &Write) -> bool
     ensures { IsTrue result → (d : Write) → 0 < length writes.now → place_cmp (named (slice_index_or writes.now (length writes.now - 1) d)) (named write.now) ≡ Less }
 {
@@ -59,6 +61,7 @@ fn ends_before(writes: &[Write], write: &Write) -> bool
     }
 }
 
+/// Where a write stands: one behind all others is found at once, and any other by halving.
 fn seek_write(writes: &[Write], write: &Write) -> Result<usize, usize>
     requires { IsInOrder writes.now }
     ensures { Sought named place_cmp (named write.now) writes.now result }
@@ -77,7 +80,32 @@ fn is_written(writes: &[Write], write: &Write) -> bool
     seek_write(writes, write).is_ok()
 }
 
+/// Whether the key of a new row is there: in the table, or in an earlier row.
+fn is_there(held: &[Stored], writes: &[Write], write: &Write) -> bool
+    requires ascends { Ascends key_of key_cmp held.now }
+    requires in_order { IsInOrder writes.now }
+    ensures { result ≡ spec.is_there held.now writes.now write.now }
+{
+    is_held(held, &write.key) || is_written(writes, write)
+}
+
+/// Puts a write of a new place on the writes so far, or says that it is one too many, and then they are as before.
+fn put_within(writes: &mut Writes, write: Write) -> Result<Option<RowFault>, AllocError>
+    requires in_order { IsInOrder writes.old.list }
+    requires new { is_some (write_at (named write) writes.old.list) ≡ false }
+    ensures fault { IfOk result (λ f. f ≡ spec.limit_fault writes.old.limit writes.old.list write) }
+    ensures put { IfOk result (λ f. f ≡ None → writes.new.list ≡ merge writes.old.list (write ∷ [])) }
+    ensures limit { writes.new.limit ≡ writes.old.limit }
+{
+    match writes.put(write) {
+        Ok(()) => Ok(None),
+        Err(PutFault::Full(_)) => Ok(Some(RowFault::TooManyWrites)),
+        Err(PutFault::Memory(_)) => Err(AllocError),
+    }
+}
+
 /// Puts the write of a new row on the writes so far, or says why not, and then they are as before.
+#[tactic(auto, using(crate::proofs::EffectLaws::no_write, crate::proofs::EffectLaws::only_limit))]
 pub fn put_new(
     held: &[Stored],
     writes: &mut Writes,
@@ -88,12 +116,8 @@ pub fn put_new(
     ensures put { IfOk result (λ f. f ≡ None → writes.new.list ≡ merge writes.old.list (write ∷ [])) }
     ensures limit { writes.new.limit ≡ writes.old.limit }
 {
-    if is_held(held, &write.key) || is_written(writes.as_slice(), &write) {
+    if is_there(held, writes.as_slice(), &write) {
         return Ok(Some(RowFault::Duplicate));
     }
-    match writes.put(write) {
-        Ok(()) => Ok(None),
-        Err(PutFault::Full(_)) => Ok(Some(RowFault::TooManyWrites)),
-        Err(PutFault::Memory(_)) => Err(AllocError),
-    }
+    put_within(writes, write)
 }

@@ -1,29 +1,20 @@
 //! Where an INSERT of literals is refused before it reads the tables.
 ghost use Rattle.std.specs.Prelude.{◌≡◌, true, None, IfOk, IfErr, slice_get};
 ghost use Rattle.std.specs.List.{flat_map};
-ghost use Rattle.pg_ast.specs.EntryShapes as entry;
-ghost use Rattle.pg_ast.specs.Exprs.{tree_of};
-ghost use Rattle.pg_ast.specs.FaultPlaces.{least};
-ghost use Rattle.pg_ast.specs.GraphEntries.{number_of};
-ghost use Rattle.pg_ast.specs.GraphJudgement.{same_kind};
-ghost use Rattle.pg_ast.specs.InsertJudgement.{insert_fault};
-ghost use Rattle.pg_ast.specs.Typing as typing;
+ghost use Rattle.pg_rules.specs.Catalog.Shapes as entry;
+ghost use Rattle.pg_ast.specs.Trees.{tree_of};
+ghost use Rattle.pg_rules.specs.Places.{least};
+ghost use Rattle.pg_rules.specs.Definitions.Entries.{number_of};
+ghost use Rattle.pg_rules.specs.Changes.InsertJudgement.{insert_fault};
+ghost use Rattle.pg_meaning.specs.Typing as typing;
+ghost use Rattle.pg_rules.specs.Changes.PlainInsert.{is_plain};
 ghost use Rattle.pg_write.specs.PlainInsert as spec;
-ghost use Rattle.pg_write.specs.ValuePasses as passes;
+ghost use Rattle.pg_write.specs.LiteralFaults as passes;
 
-use crate::least::{place_if, sooner};
-use pg_ast::{Expr, Insert, InsertTuple, ResolveFault, Whole};
+use pg_ast::{Expr, Insert, InsertTuple, Whole};
 use pg_catalog::Catalog;
-use pg_value::{ColumnShape, Kind, Shapes, TableNo, Value};
-
-fn same_kind(a: Kind, b: Kind) -> bool
-    ensures { result ≡ same_kind a b }
-{
-    match (a, b) {
-        (Kind::Int, Kind::Int) | (Kind::Text, Kind::Text) | (Kind::Bool, Kind::Bool) => true,
-        _ => false,
-    }
-}
+use pg_rules::{ResolveFault, place_if, sooner};
+use pg_value::{ColumnShape, Kind, Shapes, TableNo, Value, same_kind};
 
 /// Whether a value of this kind, or of any where it has none, may stand in a column.
 fn may_be(column: Kind, kind: Option<Kind>) -> bool
@@ -35,6 +26,7 @@ fn may_be(column: Kind, kind: Option<Kind>) -> bool
     }
 }
 
+/// The kind of a value, none for NULL.
 fn value_kind(value: &Value) -> Option<Kind>
     ensures { result ≡ typing.value_kind value.now }
 {
@@ -46,6 +38,7 @@ fn value_kind(value: &Value) -> Option<Kind>
     }
 }
 
+/// The kind of a literal, none for NULL.
 fn literal_kind(expr: &Expr) -> Option<Kind>
     ensures { result ≡ passes.literal_kind (tree_of expr.now) }
 {
@@ -63,6 +56,7 @@ fn wrong_literal(column: Kind, value: &Whole) -> Option<u32>
     place_if(!may_be(column, literal_kind(&value.expr)), value.at)
 }
 
+/// The place of a value that has another kind than the column at its place.
 fn wrong_at(columns: &[ColumnShape], place: usize, value: &Whole) -> Option<u32>
     ensures { result ≡ least (passes.wrong_in (slice_get columns.now place) value.now) }
 {
@@ -72,7 +66,8 @@ fn wrong_at(columns: &[ColumnShape], place: usize, value: &Whole) -> Option<u32>
     }
 }
 
-#[tactic(auto, using(pg_ast::specs::FaultPlaces::least_found, pg_ast::specs::FaultPlaces::sooner_none))]
+/// The first value of a tuple that has another kind than its column.
+#[tactic(auto, using(pg_rules::specs::Places::least_found, pg_rules::specs::Places::sooner_none))]
 fn wrong_in(columns: &[ColumnShape], values: &[Whole]) -> Option<u32>
     ensures { result ≡ least (passes.wrong_from columns.now 0 values.now) }
 {
@@ -84,7 +79,7 @@ fn wrong_in(columns: &[ColumnShape], values: &[Whole]) -> Option<u32>
 }
 
 /// The first value that has another kind than its column.
-#[tactic(auto, using(pg_ast::specs::FaultPlaces::least_found, pg_ast::specs::FaultPlaces::sooner_none))]
+#[tactic(auto, using(pg_rules::specs::Places::least_found, pg_rules::specs::Places::sooner_none))]
 fn types(columns: &[ColumnShape], tuples: &[InsertTuple]) -> Option<u32>
     ensures { result ≡ least (flat_map (λ t. passes.wrong_from columns.now 0 t.values) tuples.now) }
 {
@@ -98,6 +93,7 @@ fn types(columns: &[ColumnShape], tuples: &[InsertTuple]) -> Option<u32>
 /// The most binary digits that a number may have.
 const WIDEST: u32 = 126;
 
+/// The place of a number that is too wide.
 fn wide_literal(expr: &Expr) -> Option<u32>
     ensures { result ≡ least (passes.wide_literal (tree_of expr.now)) }
 {
@@ -108,7 +104,8 @@ fn wide_literal(expr: &Expr) -> Option<u32>
     }
 }
 
-#[tactic(auto, using(pg_ast::specs::FaultPlaces::least_found, pg_ast::specs::FaultPlaces::sooner_none))]
+/// The first number of a tuple that is too wide.
+#[tactic(auto, using(pg_rules::specs::Places::least_found, pg_rules::specs::Places::sooner_none))]
 fn wide_in(values: &[Whole]) -> Option<u32>
     ensures { result ≡ least (passes.wide_in values.now) }
 {
@@ -120,7 +117,7 @@ fn wide_in(values: &[Whole]) -> Option<u32>
 }
 
 /// The first number that is too wide.
-#[tactic(auto, using(pg_ast::specs::FaultPlaces::least_found, pg_ast::specs::FaultPlaces::sooner_none))]
+#[tactic(auto, using(pg_rules::specs::Places::least_found, pg_rules::specs::Places::sooner_none))]
 fn wide(tuples: &[InsertTuple]) -> Option<u32>
     ensures { result ≡ least (flat_map (λ t. passes.wide_in t.values) tuples.now) }
 {
@@ -132,7 +129,7 @@ fn wide(tuples: &[InsertTuple]) -> Option<u32>
 }
 
 /// The first tuple that has not one value for each column.
-#[tactic(auto, using(pg_ast::specs::FaultPlaces::least_found, pg_ast::specs::FaultPlaces::sooner_none))]
+#[tactic(auto, using(pg_rules::specs::Places::least_found, pg_rules::specs::Places::sooner_none))]
 fn count(columns: usize, tuples: &[InsertTuple]) -> Option<u32>
     ensures { result ≡ least (flat_map (passes.miscounted columns) tuples.now) }
 {
@@ -178,7 +175,7 @@ pub fn resolve_insert(
     shapes: &Shapes,
     insert: &Insert,
 ) -> Result<TableNo, ResolveFault>
-    requires plain { spec.is_plain insert.now ≡ true }
+    requires plain { is_plain insert.now ≡ true }
     requires shapes { shapes.now ≡ entry.shapes catalog.now }
     ensures right { IfOk result (λ _. insert_fault catalog.now.0 insert.now ≡ None) }
     ensures table { IfOk result (λ t. t ≡ number_of catalog.now.0 insert.now.table.text) }

@@ -1,10 +1,10 @@
 //! The row and the key of a tuple of literals.
-ghost use Rattle.std.specs.Prelude.{◌≡◌, IfOk, slice_index_or, map};
+ghost use Rattle.std.specs.Prelude.{◌≡◌, [], IfOk, slice_index_or, map};
 ghost use Rattle.std.specs.List.{range_with_len};
 ghost use Rattle.pg_value.specs.Tables.{pick};
 ghost use Rattle.pg_value.specs.declared.value.Value.TheVariants.{Null};
-ghost use Rattle.pg_ast.specs.Exprs.{tree_of};
-ghost use Rattle.pg_write.specs.RowPasses as spec;
+ghost use Rattle.pg_ast.specs.Trees.{tree_of};
+ghost use Rattle.pg_write.specs.FaultyRows as spec;
 
 use pg_ast::{Expr, InsertTuple, Whole};
 use pg_value::{Key, List, Row, TableShape, Value, copy_value};
@@ -20,6 +20,7 @@ fn literal_value(alloc: Global, expr: &Expr) -> Result<Value, AllocError>
     }
 }
 
+/// The value at a place of a tuple, NULL where it has none.
 fn value_at(alloc: Global, values: &[Whole], place: usize) -> Result<Value, AllocError>
     ensures { IfOk result (λ v. v ≡ spec.value_at values.now place) }
 {
@@ -29,10 +30,18 @@ fn value_at(alloc: Global, values: &[Whole], place: usize) -> Result<Value, Allo
     }
 }
 
+/// No values, with room for some.
+fn empty_row(alloc: Global, columns: usize) -> Result<List<Value>, AllocError>
+    ensures { IfOk result (λ row. row ≡ []) }
+{
+    Ok(List::from_vec(Vec::with_capacity(alloc, columns)?))
+}
+
+/// As many values of a tuple as there are columns.
 fn values_of(alloc: Global, columns: usize, values: &[Whole]) -> Result<List<Value>, AllocError>
     ensures { IfOk result (λ row. row ≡ map (spec.value_at values.now) (range_with_len 0 columns)) }
 {
-    let mut out = List::from_vec(Vec::with_capacity(alloc, columns)?);
+    let mut out = empty_row(alloc, columns)?;
     for place in 0..columns {
         out.push(value_at(alloc, values, place)?)?;
     }
@@ -52,6 +61,7 @@ pub fn literal_row(
     })
 }
 
+/// A copy of the value at a place, NULL where there is none.
 fn copy_at(alloc: Global, values: &[Value], place: usize) -> Result<Value, AllocError>
     ensures { IfOk result (λ v. v ≡ slice_index_or values.now place Null) }
 {
@@ -61,10 +71,11 @@ fn copy_at(alloc: Global, values: &[Value], place: usize) -> Result<Value, Alloc
     }
 }
 
+/// Copies of the values in some columns.
 fn pick(alloc: Global, columns: &[u32], values: &[Value]) -> Result<List<Value>, AllocError>
     ensures { IfOk result (λ picked. picked ≡ pick columns.now values.now) }
 {
-    let mut out = List::from_vec(Vec::with_capacity(alloc, columns.len())?);
+    let mut out = empty_row(alloc, columns.len())?;
     for column in columns {
         out.push(copy_at(alloc, values, *column as usize)?)?;
     }

@@ -9,7 +9,7 @@ use Rattle.pg_script.specs.declared.outcome.Outcome.{Outcome}
 use Rattle.pg_script.specs.declared.outcome.Outcome.TheVariants.{Changed, ChangedAlone, LogFull}
 use Rattle.pg_script.specs.Judged.{IsCommit}
 use Rattle.pgq.specs.declared.engine.Engine.{Engine}
-use Rattle.pgq.specs.Core.{base_after}
+use Rattle.pg_session.specs.Core.{base_after}
 use Rattle.pgq.specs.Engine.{most_log_writes, peak_after}
 
 -- the write gives a row

@@ -3,7 +3,7 @@ use Rattle.std.specs.Prelude.{◌≡◌, List, [], ◌∷◌, ◌++◌, length}
 use Rattle.pg_value.specs.Tables.{Stored}
 use Rattle.pg_ast.specs.declared.define.Define.{Define}
 use Rattle.pg_ast.specs.declared.define.Define.TheVariants as definitions
-use Rattle.pg_ast.specs.EntryShapes.{shapes}
+use Rattle.pg_rules.specs.Catalog.Shapes.{shapes}
 use Rattle.pgq.specs.declared.engine.Engine.{Engine}
 
 -- a new table holds no rows

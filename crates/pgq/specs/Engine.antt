@@ -8,18 +8,18 @@ use Rattle.pg_value.specs.Log.{after, held}
 use Rattle.pg_ast.specs.declared.define.Define.{Define}
 use Rattle.pg_ast.specs.declared.statement.Insert.{Insert}
 use Rattle.pg_ast.specs.declared.pattern.Query.{Query}
-use Rattle.pg_ast.specs.CatalogEntries.{Defined}
-use Rattle.pg_ast.specs.CatalogLookUps.{nothing}
-use Rattle.pg_ast.specs.EntryShapes.{shapes}
-use Rattle.pg_ast.specs.Bindings.{Distinct}
+use Rattle.pg_rules.specs.Catalog.{Defined}
+use Rattle.pg_rules.specs.Catalog.LookUps.{nothing}
+use Rattle.pg_rules.specs.Catalog.Shapes.{shapes}
+use Rattle.pg_meaning.specs.Bindings.{Distinct}
 use Rattle.pg_script.specs.declared.script.Item.{Item}
 use Rattle.pg_script.specs.declared.outcome.Outcome.{Outcome}
 use Rattle.pg_script.specs.Judged.{Judged, Session, Reading}
 use Rattle.pg_script.specs.Session.{printed}
 use Rattle.pgq.specs.declared.engine.Engine.{Engine}
-use Rattle.pgq.specs.Core.{Core, most_over_base, base_after}
-use Rattle.pgq.specs.Stepped.{now, follows_start, is_definition}
-use Rattle.pgq.specs.Language.{language, reads}
+use Rattle.pg_session.specs.Core.{Core, most_over_base, base_after}
+use Rattle.pg_session.specs.Stepped.{now, follows_start, is_definition}
+use Rattle.pg_language.specs.Language.{language, reads}
 
 -- how many writes the log may hold
 abbrev pub most_log_writes : ℕ

@@ -17,12 +17,18 @@ use Rattle.pgq.specs.declared.step.NoText.TheVariants as no_text
 use Rattle.pgq.specs.declared.status.Status.{Status}
 use Rattle.pgq.specs.declared.status.Status.TheVariants.{Done, BadScript, BadWords, ReadFault, WriteFault, Memory, NotYet}
 
+-- WHAT THE BYTES ARE
+
 -- the transcript is of the script which these bytes are, and which has at most one session: of its stepped run, which is legal
 pub record IsRunOf (bytes : List ℕ) (t : Transcript) : Type 0 where
   pub script : Script
   pub is_script : IsScript bytes script
   pub one_session : length script.sections ≤ 2
   pub run : IsRun script t
+
+-- the text is that of a transcript of the script's run
+abbrev pub IsTextOfRun : Script → List ℕ → Type 0
+IsTextOfRun script text = (t : Transcript) × IsRun script t × (text ≡ text_of t)
 
 -- the text is that of such a transcript
 abbrev pub IsTextOf : List ℕ → List ℕ → Type 0
@@ -37,6 +43,8 @@ abbrev pub IsNoText : List ℕ → NoText → Type 0
 IsNoText bytes (no_text.Bad line kind) = IsScriptFault bytes line kind
 IsNoText bytes no_text.NotYet = HasSessions bytes
 IsNoText bytes no_text.Memory = Unit {0}
+
+-- WHAT WAS READ
 
 -- the source was read to its end, and the text is one of what was read
 pub record LegalRun (before after : Option (List ℕ)) (text : List ℕ) : Type 0 where
@@ -57,17 +65,24 @@ pub record ReadsNoScript (before after : Option (List ℕ)) (line : ℕ) (kind :
   pub read : ReadsAll most_bytes before after bytes
   pub fault : IsScriptFault bytes line kind
 
+-- BY THE STATUS
+
 -- the bytes that are left to read and those that the sink holds, before and after, where they are told, and the counts of faults
 module _ (left left' : Option (List ℕ)) (read_faults read_faults' : ℕ) (held held' : Option (List ℕ)) (write_faults write_faults' : ℕ) where
+  -- no read and no write failed
+  pub record HasNoFault : Type 0 where
+    pub no_read_fault : read_faults' ≡ read_faults
+    pub no_write_fault : write_faults' ≡ write_faults
+
   -- `step`: what was read and written, and why, by the status
   abbrev pub StepMeans : Status → Type 0
-  StepMeans Done = (text : List ℕ) × LegalRun left left' text × Appends held held' text
-  StepMeans (BadScript line kind) = ReadsNoScript left left' line kind × Keeps held held'
+  StepMeans Done = (text : List ℕ) × LegalRun left left' text × Appends held held' text × HasNoFault
+  StepMeans (BadScript line kind) = ReadsNoScript left left' line kind × Keeps held held' × HasNoFault
   StepMeans BadWords = ⊥
-  StepMeans ReadFault = Rose read_faults read_faults' × ReadsSome most_bytes left left' × Keeps held held'
-  StepMeans WriteFault = Rose write_faults write_faults' × ((text : List ℕ) × LegalRun left left' text × TookFront held held' text)
-  StepMeans Memory = ReadsSome most_bytes left left' × Keeps held held'
-  StepMeans NotYet = ReadsNoRun left left' × Keeps held held'
+  StepMeans ReadFault = Rose read_faults read_faults' × (write_faults' ≡ write_faults) × ReadsSome most_bytes left left' × Keeps held held'
+  StepMeans WriteFault = Rose write_faults write_faults' × (read_faults' ≡ read_faults) × ((text : List ℕ) × LegalRun left left' text × TookFront held held' text)
+  StepMeans Memory = ReadsSome most_bytes left left' × Keeps held held' × HasNoFault
+  StepMeans NotYet = ReadsNoRun left left' × Keeps held held' × HasNoFault
 
   -- nothing was read or written, and no fault came
   pub record Untouched : Type 0 where

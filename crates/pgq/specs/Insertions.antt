@@ -5,11 +5,11 @@ use Rattle.pg_value.specs.declared.shape.TableNo.{TableNo}
 use Rattle.pg_value.specs.declared.shape.TableShape.{TableShape}
 use Rattle.pg_value.specs.declared.write.Write.{Write}
 use Rattle.pg_ast.specs.declared.statement.Insert.{Insert}
-use Rattle.pg_ast.specs.GraphEntries.{number_of}
+use Rattle.pg_rules.specs.Definitions.Entries.{number_of}
 use Rattle.pg_write.specs.declared.fault.EffectFault.{EffectFault}
 use Rattle.pg_write.specs.PlainInsert.{Writes, Refuses, rows_of}
 use Rattle.pgq.specs.declared.engine.Engine.{Engine}
-use Rattle.pgq.specs.Language.{most_transaction_writes}
+use Rattle.pg_language.specs.Language.{most_transaction_writes}
 
 -- the table that an INSERT names, which stands in the catalog and among the lists of rows
 pub record IsTableOf (e : Engine) (i : Insert) (table : TableNo) : Type 0 where

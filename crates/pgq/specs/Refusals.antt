@@ -1,18 +1,11 @@
--- How faults are told.
+-- How a statement that is refused before it reads the tables is answered.
 use Rattle.std.specs.Prelude.{ℕ, ◌≡◌}
-use Rattle.pg_ast.specs.declared.fault.DefineFault.{DefineFault}
-use Rattle.pg_ast.specs.declared.fault.ResolveFault.{ResolveFault}
-use Rattle.pg_check.specs.declared.fault.CheckFault.{CheckFault}
+use Rattle.std.specs.declared.option.Option.{Option}
+use Rattle.std.specs.declared.option.Option.TheVariants.{Some}
 use Rattle.pg_script.specs.declared.outcome.FaultKind.{FaultKind}
 use Rattle.pg_script.specs.declared.outcome.Outcome.{Outcome}
 use Rattle.pg_script.specs.declared.outcome.Outcome.TheVariants.{AtByte}
-use Rattle.pgq.specs.Language.{IsDefineFault, IsResolveFault, IsCheckFault}
 
-abbrev pub IsDefineRefusal : DefineFault → Outcome → Type 0
-IsDefineRefusal fault o = (kind : FaultKind) × (at : ℕ) × IsDefineFault fault kind at × (o ≡ AtByte kind at)
-
-abbrev pub IsResolveRefusal : ResolveFault → Outcome → Type 0
-IsResolveRefusal fault o = (kind : FaultKind) × (at : ℕ) × IsResolveFault fault kind at × (o ≡ AtByte kind at)
-
-abbrev pub IsCheckRefusal : CheckFault → Outcome → Type 0
-IsCheckRefusal fault o = (kind : FaultKind) × (at : ℕ) × IsCheckFault fault kind at × (o ≡ AtByte kind at)
+-- a fault of this kind at this place is answered so
+abbrev pub IsTold : Option (FaultKind × ℕ) → Outcome → Type 0
+IsTold refusal o = (kind : FaultKind) × (at : ℕ) × (refusal ≡ Some (kind, at)) × (o ≡ AtByte kind at)

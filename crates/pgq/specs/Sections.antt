@@ -1,20 +1,22 @@
 -- A section's items answered one after another, and the run of a script of a setup and at most one session.
-use Rattle.std.specs.Prelude.{ℕ, ◌≡◌, ◌+◌, ◌==◌, ◌≤◌, ◌<◌, ◌^◌, cond, List, [], ◌∷◌, map, length, replicate, get_or, slice_set}
+use Rattle.std.specs.Prelude.{ℕ, ◌≡◌, ◌+◌, ◌==◌, ◌≤◌, ◌<◌, ◌^◌, Bool, false, cond, List, [], ◌∷◌, map, length, replicate, get_or, slice_set}
 use Rattle.std.specs.declared.option.Option.TheVariants.{None}
-use Rattle.pg_ast.specs.CatalogEntries.{Defined}
+use Rattle.std.specs.List.{AllZip}
+use Rattle.pg_rules.specs.Catalog.{Defined}
 use Rattle.pg_keyed.specs.Keyed.{Each}
 use Rattle.pg_script.specs.declared.script.Item.{Item}
 use Rattle.pg_script.specs.declared.script.Item.TheVariants.{Sql}
 use Rattle.pg_script.specs.declared.script.Section.{Section}
 use Rattle.pg_script.specs.declared.script.Script.{Script}
 use Rattle.pg_script.specs.declared.outcome.Outcome.{Outcome}
+use Rattle.pg_script.specs.declared.transcript.SectionOut.{SectionOut}
 use Rattle.pg_script.specs.declared.transcript.Transcript.{Transcript}
-use Rattle.pg_ast.specs.CatalogLookUps.{nothing}
+use Rattle.pg_rules.specs.Catalog.LookUps.{nothing}
 use Rattle.pg_script.specs.Legal.{items_of, Legal}
 use Rattle.pgq.specs.declared.engine.Engine.{Engine}
-use Rattle.pgq.specs.Stepped.{World, Run, no_run, Turns, section_outs, Stepped}
-use Rattle.pg_read.specs.Parsed.{IsPartAt}
-use Rattle.pgq.specs.Language.{language}
+use Rattle.pg_session.specs.Stepped.{World, Run, no_run, Turns, section_outs, Stepped}
+use Rattle.pg_lex.specs.Parts.{IsPartAt}
+use Rattle.pg_language.specs.Language.{language}
 use Rattle.pgq.specs.Engine.{most_log_writes, core_of}
 
 abbrev pub world : ℕ → List ℕ → List Run → Engine → World Defined
@@ -58,6 +60,31 @@ transcript script answers e = record {
 abbrev pub HaveAnswered : Script → ℕ → Engine → List (List Outcome) → Engine → Type 0
 HaveAnswered script n e [] e' = e' ≡ e
 HaveAnswered script n e (outs ∷ more) e' = (m : Engine) × IsWhole script n e outs m × HaveAnswered script (n + 1) m more e'
+
+-- WHAT RUNNING THE SECTIONS GIVES
+
+-- what is printed of a section, with no transaction open at its end
+abbrev pub IsOutOf : Section → SectionOut → Type 0
+IsOutOf section out = (out.name ≡ section.name) × (out.rolled_back ≡ false)
+
+abbrev pub answers_of : List SectionOut → List (List Outcome)
+answers_of outs = map (λ o. o.outcomes) outs
+
+-- one section, by its number
+pub record HasRunSection (script : Script) (n : ℕ) (section : Section) (e : Engine) (out : SectionOut) (e' : Engine) : Type 0 where
+  pub whole : IsWhole script n e out.outcomes e'
+  pub out_of : IsOutOf section out
+
+-- these sections, which are the script's first
+pub record HaveRun (script : Script) (sections : List Section) (e : Engine) (outs : List SectionOut) (e' : Engine) : Type 0 where
+  pub answered : HaveAnswered script 0 e (answers_of outs) e'
+  pub outs_of : AllZip IsOutOf sections outs
+
+-- THE RUN
+
+-- the transcript of sections that have printed so, under these names of tables
+abbrev pub printed_by : Engine → Bool → List SectionOut → List (List ℕ) → Transcript
+printed_by e has_setup outs names = record { has_setup = has_setup; sections = outs; tables = names; log = e.log; peak = e.peak }
 
 -- the item is a statement that stands in the text
 abbrev pub IsStatementIn : List ℕ → Item → Type 0

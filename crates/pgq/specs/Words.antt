@@ -1,7 +1,16 @@
--- The words that the program is run with, each by its bytes, without its name.
+-- The words that the program is run with, each by its bytes, and what they ask for.
 use Rattle.std.specs.Prelude.{ℕ, ◌≡◌, ◌⊎◌, List, [], ◌∷◌, codes}
 use Rattle.pgq.specs.declared.words.Form.{Form}
 use Rattle.pgq.specs.declared.words.Form.TheVariants.{Step}
+
+-- WHICH ARGUMENTS ARE WORDS
+
+-- all but the first argument, which is the program's name
+abbrev pub behind_name : List (List ℕ) → List (List ℕ)
+behind_name [] = []
+behind_name (name ∷ words) = words
+
+-- FORMS
 
 -- `step`, or `step -`
 abbrev pub IsStep : List (List ℕ) → Type 0

@@ -1,11 +1,11 @@
 //! Queries of one edge.
 ghost use Rattle.std.specs.Prelude.{◌≡◌, true, map, IfOk};
 ghost use Rattle.pg_script.specs.Judged.{Asks};
-ghost use Rattle.pg_check.specs.OneHopCheck.{is_one_hop};
+ghost use Rattle.pg_rules.specs.Queries.OneHop.{is_one_hop};
 ghost use Rattle.pgq.specs.Engine.{IsReady, AnswersTo};
 
 use crate::engine::Engine;
-use crate::refusal::check_refusal;
+use crate::refusal::{check_refusal, told};
 use pg_ast::Query;
 use pg_check::{HopColumn, check_one_hop};
 use pg_hop::hop_rows;
@@ -13,6 +13,7 @@ use pg_script::Outcome;
 use pg_value::{List, Text};
 use std::alloc::{AllocError, Global};
 
+/// The names of the columns of an answer.
 fn names_of(alloc: Global, columns: &[HopColumn]) -> Result<List<Text>, AllocError>
     ensures { IfOk result (λ names. names ≡ map (λ c. c.name) columns.now) }
 {
@@ -37,7 +38,7 @@ pub fn ask(
 {
     let hop = match check_one_hop(alloc, &engine.catalog, query) {
         Ok(hop) => hop,
-        Err(fault) => return check_refusal(fault),
+        Err(fault) => return told(check_refusal(fault)),
     };
     let rows = hop_rows(alloc, &engine.shapes, engine.tables.as_slice(), &hop)?;
     let names = names_of(alloc, hop.columns.as_slice())?;

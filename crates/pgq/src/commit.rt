@@ -4,7 +4,7 @@ ghost use Rattle.pg_keyed.specs.Keyed.{Ascends, Each};
 ghost use Rattle.pg_value.specs.Order.{key_cmp};
 ghost use Rattle.pg_value.specs.Log.{held};
 ghost use Rattle.pg_value.specs.TablesLaws.{key_of, key_named, put_in};
-ghost use Rattle.pgq.specs.Core.{base_after};
+ghost use Rattle.pg_session.specs.Core.{base_after};
 ghost use Rattle.pgq.specs.Engine.{IsReady, most_log_writes, peak_after};
 ghost use Rattle.pgq.specs.Commits.{HasRow, IsRowOf, IsAppended, IsCommitted, HasEnded};
 
@@ -44,6 +44,7 @@ fn peak_after(base: u64, found: u64, peak: (u64, u64)) -> (u64, u64)
     }
 }
 
+/// Puts the rows of writes among those of their table.
 fn put_in_table(
     alloc: Global,
     tables: &mut Vec<List<Stored>>,
@@ -133,6 +134,3 @@ pub fn commit(
     }
     accept(alloc, engine, section, table, writes)
 }
-
-#[cfg(test)]
-mod tests;

@@ -3,15 +3,16 @@ ghost use Rattle.std.specs.Prelude.{◌≡◌, length, IfOk, OnOk};
 ghost use Rattle.pg_script.specs.Judged.{Defines};
 ghost use Rattle.pgq.specs.Definitions.{tables_then, IsDefinedBy};
 ghost use Rattle.pgq.specs.Engine.{IsReady, AnswersTo};
-ghost use Rattle.pgq.specs.Language.{name_of};
+ghost use Rattle.pg_language.specs.Language.{name_of};
 
 use crate::engine::Engine;
-use crate::refusal::define_refusal;
+use crate::refusal::{define_refusal, told};
 use pg_ast::Define;
 use pg_script::{FaultKind, Outcome};
 use pg_value::{List, Stored, Text};
 use std::alloc::{AllocError, Global};
 
+/// The name of what is defined.
 fn name_of(alloc: Global, definition: &Define) -> Result<Text, AllocError>
     ensures { IfOk result (λ name. name ≡ name_of definition.now) }
 {
@@ -76,6 +77,6 @@ pub fn define(
     }
     match engine.catalog.define(alloc, definition) {
         Ok(()) => finish_definition(alloc, engine, definition),
-        Err(fault) => define_refusal(fault),
+        Err(fault) => told(define_refusal(fault)),
     }
 }

@@ -1,18 +1,19 @@
 //! INSERT of literals, outside a transaction.
 ghost use Rattle.std.specs.Prelude.{◌≡◌, ◌<◌, true, None, length, IfOk, IfErr, OnOk};
-ghost use Rattle.pg_ast.specs.GraphEntries.{number_of};
-ghost use Rattle.pg_ast.specs.InsertJudgement.{insert_fault};
+ghost use Rattle.pg_rules.specs.Definitions.Entries.{number_of};
+ghost use Rattle.pg_rules.specs.Changes.InsertJudgement.{insert_fault};
 ghost use Rattle.pg_script.specs.Judged.{Changes, refused};
-ghost use Rattle.pg_write.specs.PlainInsert.{is_plain};
+ghost use Rattle.pg_rules.specs.Changes.PlainInsert.{is_plain};
 ghost use Rattle.pgq.specs.Engine.{IsReady, AnswersTo};
-ghost use Rattle.pgq.specs.Language.{refusal_of, column_called};
+ghost use Rattle.pg_language.specs.Language.{refusal_of, column_called};
 ghost use Rattle.pgq.specs.Insertions.{IsTableOf, HasRows, HasNoRows};
 
 use crate::commit::commit;
 use crate::engine::Engine;
-use crate::refusal::resolve_refusal;
-use pg_ast::{Insert, RowFault};
+use crate::refusal::{resolve_refusal, told};
+use pg_ast::Insert;
 use pg_catalog::Catalog;
+use pg_rules::RowFault;
 use pg_script::{ColumnFault, Outcome};
 use pg_value::{TableNo, Text, Writes};
 use pg_write::{EffectFault, insert_rows, resolve_insert};
@@ -55,6 +56,7 @@ fn column_called(
     }
 }
 
+/// The answer of a change whose first faulty row has this fault at a column, over the whole log.
 fn column_refusal(
     alloc: Global,
     engine: &Engine,
@@ -148,6 +150,6 @@ pub fn insert(
 {
     match resolve_insert(&engine.catalog, &engine.shapes, insert) {
         Ok(table) => insert_into(alloc, engine, section, table, insert),
-        Err(fault) => resolve_refusal(fault),
+        Err(fault) => told(resolve_refusal(fault)),
     }
 }

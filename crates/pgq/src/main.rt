@@ -9,6 +9,7 @@ mod commit;
 mod definition;
 mod engine;
 mod insertion;
+mod language;
 mod refusal;
 mod rows;
 mod run;
@@ -20,6 +21,7 @@ mod words;
 
 use crate::status::Status;
 use crate::top::top;
+use crate::words::words_among;
 use pg_outside::{StdSink, StdSource};
 use pg_value::{List, Text};
 use std::process::ExitCode;
@@ -39,22 +41,13 @@ fn main(rt: HostRuntime) -> ExitCode {
     ExitCode::from(status.number())
 }
 
-// The words that the program was run with, without its name. A word that is no text is of no form.
+/// The words that the program was run with. Arguments that are no text are of no form.
 fn words_of(rt: &(impl Env + AllocGlobal)) -> Result<List<Text>, Status>
     ensures { IfErr result (λ status. (status ≡ Status.BadWords) ⊎ (status ≡ Status.Memory)) }
 {
-    let args = match env::args(rt) {
-        Ok(args) => args,
-        Err(e) if e.kind() == io::ErrorKind::OutOfMemory => return Err(Status::Memory),
-        Err(_) => return Err(Status::BadWords),
-    };
-    let mut words = List::new(rt.alloc());
-    for arg in args.skip(1) {
-        let word = Text::from_str(rt.alloc(), arg.as_str()).map_err(|_| Status::Memory)?;
-        words.push(word).map_err(|_| Status::Memory)?;
+    match env::args(rt) {
+        Ok(args) => words_among(rt.alloc(), args).map_err(|_| Status::Memory),
+        Err(e) if e.kind() == io::ErrorKind::OutOfMemory => Err(Status::Memory),
+        Err(_) => Err(Status::BadWords),
     }
-    Ok(words)
 }
-
-#[cfg(test)]
-mod tests;

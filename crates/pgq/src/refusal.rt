@@ -1,62 +1,65 @@
 //! How statements that are refused before they read the tables are answered.
-ghost use Rattle.std.specs.Prelude.{◌≡◌, IfOk, OnErr};
-ghost use Rattle.pgq.specs.Refusals.{IsDefineRefusal, IsResolveRefusal, IsCheckRefusal};
+ghost use Rattle.std.specs.Prelude.{◌≡◌, None, IfOk, OnErr};
+ghost use Rattle.pg_language.specs.Language.{define_refusal, resolve_refusal, check_refusal};
+ghost use Rattle.pgq.specs.Refusals.{IsTold};
 
-use pg_ast::{DefineFault, ResolveFault};
-use pg_check::CheckFault;
+use pg_rules::{CheckFault, DefineFault, ResolveFault};
 use pg_script::{FaultKind, Outcome};
 use std::alloc::AllocError;
 
-fn at_byte(kind: FaultKind, byte: u32) -> Outcome
-    ensures { result ≡ Outcome.AtByte kind byte }
+/// The answer of a statement with a fault of this kind at this place, and an error exactly where there is none, which is want
+/// of memory.
+pub fn told(refusal: Option<(FaultKind, u32)>) -> Result<Outcome, AllocError>
+    ensures told { IfOk result (IsTold refusal) }
+    ensures memory { OnErr result (refusal ≡ None) }
 {
-    Outcome::AtByte { kind, byte }
-}
-
-/// The answer of a definition with this fault, and an error exactly where the fault is want of memory.
-pub fn define_refusal(fault: DefineFault) -> Result<Outcome, AllocError>
-    ensures refusal { IfOk result (IsDefineRefusal fault) }
-    ensures memory { OnErr result (fault ≡ DefineFault.Memory) }
-{
-    match fault {
-        DefineFault::NameTaken { at } => Ok(at_byte(FaultKind::NameTaken, at)),
-        DefineFault::NoTable { at } => Ok(at_byte(FaultKind::NoTable, at)),
-        DefineFault::NoColumn { at } => Ok(at_byte(FaultKind::NoColumn, at)),
-        DefineFault::KeyMismatch { at } => Ok(at_byte(FaultKind::KeyMismatch, at)),
-        DefineFault::LabelMismatch { at } => Ok(at_byte(FaultKind::LabelMismatch, at)),
-        DefineFault::TypeMismatch { at } => Ok(at_byte(FaultKind::TypeMismatch, at)),
-        DefineFault::Limit { at } => Ok(at_byte(FaultKind::Limit, at)),
-        DefineFault::Memory => Err(AllocError),
+    match refusal {
+        Some((kind, byte)) => Ok(Outcome::AtByte { kind, byte }),
+        None => Err(AllocError),
     }
 }
 
-/// The answer of a change with this fault, and an error exactly where the fault is want of memory.
-pub fn resolve_refusal(fault: ResolveFault) -> Result<Outcome, AllocError>
-    ensures refusal { IfOk result (IsResolveRefusal fault) }
-    ensures memory { OnErr result (fault ≡ ResolveFault.Memory) }
+/// The kind and the place of a definition's fault; want of memory has none.
+pub fn define_refusal(fault: DefineFault) -> Option<(FaultKind, u32)>
+    ensures { result ≡ define_refusal fault }
 {
     match fault {
-        ResolveFault::NoTable { at } => Ok(at_byte(FaultKind::NoTable, at)),
-        ResolveFault::NoColumn { at } => Ok(at_byte(FaultKind::NoColumn, at)),
-        ResolveFault::ColumnTwice { at } => Ok(at_byte(FaultKind::ColumnTwice, at)),
-        ResolveFault::Count { at } => Ok(at_byte(FaultKind::Count, at)),
-        ResolveFault::KeyUpdate { at } => Ok(at_byte(FaultKind::KeyUpdate, at)),
-        ResolveFault::Types { at } => Ok(at_byte(FaultKind::Types, at)),
-        ResolveFault::Wide { at } => Ok(at_byte(FaultKind::Wide, at)),
-        ResolveFault::Memory => Err(AllocError),
+        DefineFault::NameTaken { at } => Some((FaultKind::NameTaken, at)),
+        DefineFault::NoTable { at } => Some((FaultKind::NoTable, at)),
+        DefineFault::NoColumn { at } => Some((FaultKind::NoColumn, at)),
+        DefineFault::KeyMismatch { at } => Some((FaultKind::KeyMismatch, at)),
+        DefineFault::LabelMismatch { at } => Some((FaultKind::LabelMismatch, at)),
+        DefineFault::TypeMismatch { at } => Some((FaultKind::TypeMismatch, at)),
+        DefineFault::Limit { at } => Some((FaultKind::Limit, at)),
+        DefineFault::Memory => None,
     }
 }
 
-/// The answer of a query with this fault, and an error exactly where the fault is want of memory.
-pub fn check_refusal(fault: CheckFault) -> Result<Outcome, AllocError>
-    ensures refusal { IfOk result (IsCheckRefusal fault) }
-    ensures memory { OnErr result (fault ≡ CheckFault.Memory) }
+/// The kind and the place of a change's fault; want of memory has none.
+pub fn resolve_refusal(fault: ResolveFault) -> Option<(FaultKind, u32)>
+    ensures { result ≡ resolve_refusal fault }
 {
     match fault {
-        CheckFault::NoGraph { at } => Ok(at_byte(FaultKind::NoGraph, at)),
-        CheckFault::NoProperty { at } => Ok(at_byte(FaultKind::NoProperty, at)),
-        CheckFault::BadVariable { at } => Ok(at_byte(FaultKind::BadVariable, at)),
-        CheckFault::Limit { at } => Ok(at_byte(FaultKind::Limit, at)),
-        CheckFault::Memory => Err(AllocError),
+        ResolveFault::NoTable { at } => Some((FaultKind::NoTable, at)),
+        ResolveFault::NoColumn { at } => Some((FaultKind::NoColumn, at)),
+        ResolveFault::ColumnTwice { at } => Some((FaultKind::ColumnTwice, at)),
+        ResolveFault::Count { at } => Some((FaultKind::Count, at)),
+        ResolveFault::KeyUpdate { at } => Some((FaultKind::KeyUpdate, at)),
+        ResolveFault::Types { at } => Some((FaultKind::Types, at)),
+        ResolveFault::Wide { at } => Some((FaultKind::Wide, at)),
+        ResolveFault::Memory => None,
+    }
+}
+
+/// The kind and the place of a query's fault; want of memory has none.
+pub fn check_refusal(fault: CheckFault) -> Option<(FaultKind, u32)>
+    ensures { result ≡ check_refusal fault }
+{
+    match fault {
+        CheckFault::NoGraph { at } => Some((FaultKind::NoGraph, at)),
+        CheckFault::NoProperty { at } => Some((FaultKind::NoProperty, at)),
+        CheckFault::BadVariable { at } => Some((FaultKind::BadVariable, at)),
+        CheckFault::Limit { at } => Some((FaultKind::Limit, at)),
+        CheckFault::Memory => None,
     }
 }

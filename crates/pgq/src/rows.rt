@@ -1,17 +1,14 @@
 //! How the rows of a statement are put among the rows of their table.
-ghost use Rattle.std.specs.Prelude.{◌≡◌, [], ◌∷◌, ◌<◌, ◌-◌, length, slice_index_or, IsTrue, IfOk, OnOk};
-ghost use Rattle.std.specs.Option.{IsSome};
+ghost use Rattle.std.specs.Prelude.{◌≡◌, [], ◌∷◌, IfOk, OnOk};
 ghost use Rattle.std.specs.declared.option.Option.TheVariants.{Some};
-ghost use Rattle.std.specs.declared.cmp.Ordering.TheVariants.{Less};
-ghost use Rattle.pg_keyed.specs.Keyed.{Ascends, Each, Sought};
+ghost use Rattle.pg_keyed.specs.Keyed.{Ascends, Each};
 ghost use Rattle.pg_value.specs.Order.{key_cmp};
 ghost use Rattle.pg_value.specs.Log.{row_given};
 ghost use Rattle.pg_value.specs.TablesLaws.{key_of, key_named, put_in};
 ghost use Rattle.pgq.specs.Commits.{HasRow};
 
-use pg_value::{Key, List, Stored, Write, copy_key, copy_row, order_keys};
+use pg_value::{List, Stored, Write, copy_key, copy_row, seek_row};
 use std::alloc::{AllocError, Global};
-use std::cmp::Ordering;
 
 /// Puts the rows of writes among the rows of their table, by their keys: a row of the same key is replaced. A key behind all
 /// others is found at once, and any other by halving. After want of memory some of them are put and the others are not.
@@ -30,13 +27,14 @@ pub fn put_rows(alloc: Global, rows: &mut List<Stored>, writes: &[Write]) -> Res
     Ok(())
 }
 
+/// Puts one row among the rows of its table, by its key.
 fn put_row(alloc: Global, rows: &mut List<Stored>, write: &Write) -> Result<(), AllocError>
     requires ascends { Ascends key_of key_cmp rows.old }
     requires present { HasRow write.now }
     ensures { OnOk result (rows.new ≡ put_in rows.old (write.now ∷ [])) }
 {
     let stored = stored(alloc, write)?;
-    match seek(rows.as_slice(), &write.key) {
+    match seek_row(rows.as_slice(), &write.key) {
         Ok(at) => {
             rows.set(at, stored);
             Ok(())
@@ -61,23 +59,4 @@ fn stored(alloc: Global, write: &Write) -> Result<Stored, AllocError>
         }),
         None => unreachable!(),
     }
-}
-
-fn ends_before(rows: &[Stored], key: &Key) -> bool
-    ensures { IsTrue result → (d : Stored) → 0 < length rows.now → key_cmp (key_of (slice_index_or rows.now (length rows.now - 1) d)) key.now.values ≡ Less }
-{
-    match rows {
-        [.., last] => matches!(order_keys(&last.key, key), Ordering::Less),
-        [] => true,
-    }
-}
-
-fn seek(rows: &[Stored], key: &Key) -> Result<usize, usize>
-    requires { Ascends key_of key_cmp rows.now }
-    ensures { Sought key_of key_cmp key.now.values rows.now result }
-{
-    if ends_before(rows, key) {
-        return Err(rows.len());
-    }
-    rows.binary_search_by(|row| order_keys(&row.key, key))
 }

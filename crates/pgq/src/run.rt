@@ -4,16 +4,19 @@ ghost use Rattle.std.specs.Option.{option_map};
 ghost use Rattle.std.specs.declared.option.Option.TheVariants.{Some};
 ghost use Rattle.pg_keyed.specs.Keyed.{Each};
 ghost use Rattle.pgq.specs.Engine.{IsReady, Answers};
-ghost use Rattle.pgq.specs.Sections.{IsStatementIn, IsRunnable, HasAnswered, IsRun};
-ghost use Rattle.pgq.specs.Sectioned.{HasRunSection, HaveRun};
+ghost use Rattle.pgq.specs.Sections.{IsStatementIn, IsRunnable, HasAnswered, IsRun, printed_by};
+ghost use Rattle.pgq.specs.Sections.{HasRunSection, HaveRun};
 
 use crate::engine::Engine;
+use crate::language::Statements;
 use crate::statement::answer;
 use pg_catalog::Catalog;
 use pg_script::{Item, Outcome, Script, Section, SectionOut, Transcript};
+use pg_session::stepped_runs_are_legal;
 use pg_value::{List, TableNo, Text};
 use std::alloc::{AllocError, Global};
 
+/// Answers one item of a section, which is a statement.
 fn answer_item(
     alloc: Global,
     text: &Text,
@@ -113,6 +116,7 @@ fn run_sections(
     Ok(outs)
 }
 
+/// The name of the table of a number.
 fn table_name(alloc: Global, catalog: &Catalog, table: u32) -> Result<Text, AllocError>
     requires { table < length catalog.now.0 }
     ensures { IfOk result (λ name. option_map (λ t. t.0) (slice_get catalog.now.0 table) ≡ Some name) }
@@ -140,6 +144,24 @@ fn table_names(alloc: Global, catalog: &Catalog) -> Result<List<Text>, AllocErro
     Ok(names)
 }
 
+/// The transcript of sections that have run.
+fn transcript_of(
+    engine: Engine,
+    has_setup: bool,
+    sections: List<SectionOut>,
+    tables: List<Text>,
+) -> Transcript
+    ensures { result ≡ printed_by engine has_setup sections tables }
+{
+    Transcript {
+        has_setup,
+        sections,
+        tables,
+        log: engine.log,
+        peak: engine.peak,
+    }
+}
+
 /// Runs a script of a setup and at most one session: the transcript of its stepped run. Only want of memory refuses it.
 pub fn run(alloc: Global, script: &Script) -> Result<Transcript, AllocError>
     requires { IsRunnable script.now }
@@ -148,11 +170,6 @@ pub fn run(alloc: Global, script: &Script) -> Result<Transcript, AllocError>
     let mut engine = Engine::new(alloc);
     let sections = run_sections(alloc, script, &mut engine)?;
     let tables = table_names(alloc, &engine.catalog)?;
-    Ok(Transcript {
-        has_setup: script.has_setup,
-        sections,
-        tables,
-        log: engine.log,
-        peak: engine.peak,
-    })
+    stepped_runs_are_legal::<Statements>();
+    Ok(transcript_of(engine, script.has_setup, sections, tables))
 }

@@ -1,9 +1,9 @@
 //! A statement of a script, read and answered.
 ghost use Rattle.std.specs.Prelude.{◌≡◌, ◌<◌, ◌^◌, length, IfOk, OnOk};
 ghost use Rattle.pg_script.specs.declared.script.Item.TheVariants.{Sql};
-ghost use Rattle.pg_read.specs.Parsed.{IsPartAt};
+ghost use Rattle.pg_lex.specs.Parts.{IsPartAt};
 ghost use Rattle.pgq.specs.Engine.{IsReady, Answers, AnswersTo};
-ghost use Rattle.pgq.specs.Language.{says, says_insert, says_query};
+ghost use Rattle.pg_language.specs.Language.{says, says_insert, says_query, reading_of};
 
 use crate::asking::ask;
 use crate::definition::define;
@@ -11,12 +11,13 @@ use crate::engine::Engine;
 use crate::insertion::insert;
 use pg_ast::{Insert, Query, Statement};
 use pg_check::is_one_hop;
-use pg_read::{Parsed, read_statement};
 use pg_script::{FaultKind, Outcome};
+use pg_sql::{Parsed, read_statement};
 use pg_value::Text;
 use pg_write::is_plain;
 use std::alloc::{AllocError, Global};
 
+/// The answer of a statement that is not run yet.
 fn not_yet(at: u32) -> Outcome
     ensures { result ≡ Outcome.AtByte FaultKind.NotYet at }
 {
@@ -87,6 +88,26 @@ fn carry_out(
     }
 }
 
+/// Answers what a part of the text reads as: the statement, or Syntax at the first token that none continues.
+fn answer_parsed(
+    alloc: Global,
+    engine: &mut Engine,
+    section: u32,
+    parsed: &Parsed,
+) -> Result<Outcome, AllocError>
+    requires { IsReady engine.old }
+    ensures ready { OnOk result (IsReady engine.new) }
+    ensures answers { IfOk result (λ o. AnswersTo (reading_of parsed.now) section engine.old o engine.new) }
+{
+    match parsed {
+        Parsed::Fault { at } => Ok(Outcome::AtByte {
+            kind: FaultKind::Syntax,
+            byte: *at,
+        }),
+        Parsed::Statement { tree, at } => carry_out(alloc, engine, section, tree, *at),
+    }
+}
+
 /// Answers the statement of a section from one place of the text up to another: Syntax at the first token that no statement
 /// continues, NotYet at its first token where it is not run yet, and else by the catalog, the tables and the log. After want
 /// of memory the engine is of no use.
@@ -104,11 +125,6 @@ pub fn answer(
     ensures ready { OnOk result (IsReady engine.new) }
     ensures answers { IfOk result (λ o. Answers text.now section engine.old (Sql from to) o engine.new) }
 {
-    match read_statement(alloc, text, from, to)? {
-        Parsed::Fault { at } => Ok(Outcome::AtByte {
-            kind: FaultKind::Syntax,
-            byte: at,
-        }),
-        Parsed::Statement { tree, at } => carry_out(alloc, engine, section, &tree, at),
-    }
+    let parsed = read_statement(alloc, text, from, to)?;
+    answer_parsed(alloc, engine, section, &parsed)
 }

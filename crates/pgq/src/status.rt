@@ -1,13 +1,13 @@
 //! How a run ends: its number, and its line on standard error.
-ghost use Rattle.std.specs.Prelude.{◌≡◌, ◌↔◌, IsNone};
-ghost use Rattle.pgq.specs.Status.{number_of};
+ghost use Rattle.std.specs.Prelude.{◌≡◌};
+ghost use Rattle.std.specs.declared.option.Option.TheVariants.{Some};
+ghost use Rattle.pgq.specs.Status.{number_of, word_of, line_of};
 
 use pg_script::ScriptKind;
-use std::io;
-use thiserror::Error;
+use std::{fmt, io};
 
 /// How a run of the program ends.
-#[derive(Clone, Copy, Debug, PartialEq, Eq)]
+#[derive(Clone, Copy)]
 pub enum Status {
     /// The source was read to its end, and every byte of the text was taken.
     Done,
@@ -26,25 +26,10 @@ pub enum Status {
     NotYet,
 }
 
-// The line that is printed on standard error.
-#[derive(Debug, Drop, Error)]
-enum Fault {
-    #[error("pgq: line {line}: {kind}")]
-    BadScript { line: u32, kind: &'static str },
-    #[error("pgq: bad words")]
-    BadWords,
-    #[error("pgq: read fault")]
-    ReadFault,
-    #[error("pgq: write fault")]
-    WriteFault,
-    #[error("pgq: no memory")]
-    Memory,
-    #[error("pgq: not yet")]
-    NotYet,
-}
-
-// The word for a kind of fault.
-fn word_of(kind: ScriptKind) -> &'static str {
+/// The word for a kind of fault.
+fn word_of(kind: ScriptKind) -> &'static str
+    ensures { result.now ≡ word_of kind }
+{
     match kind {
         ScriptKind::TooLong => "TooLong",
         ScriptKind::NotText => "NotText",
@@ -52,6 +37,26 @@ fn word_of(kind: ScriptKind) -> &'static str {
         ScriptKind::Sessions => "Sessions",
         ScriptKind::Statements => "Statements",
         ScriptKind::AfterName => "AfterName",
+    }
+}
+
+/// The line on standard error, without its end; `Done` has none.
+impl fmt::Display for Status {
+    ghost output = { λ status. Some (line_of status) };
+
+    fn fmt<W: fmt::Write>(&self, f: &mut fmt::Formatter<W>) -> fmt::Result {
+        match *self {
+            Status::Done => Ok(()),
+            Status::BadScript { line, kind } => {
+                let word = word_of(kind);
+                write!(f, "pgq: line {line}: {word}")
+            }
+            Status::BadWords => f.write_str("pgq: bad words"),
+            Status::ReadFault => f.write_str("pgq: read fault"),
+            Status::WriteFault => f.write_str("pgq: write fault"),
+            Status::Memory => f.write_str("pgq: no memory"),
+            Status::NotYet => f.write_str("pgq: not yet"),
+        }
     }
 }
 
@@ -71,92 +76,11 @@ impl Status {
         }
     }
 
-    fn fault(self) -> Option<Fault>
-        ensures { IsNone result ↔ (self ≡ Status.Done) }
-    {
-        match self {
-            Status::Done => None,
-            Status::BadScript { line, kind } => Some(Fault::BadScript {
-                line,
-                kind: word_of(kind),
-            }),
-            Status::BadWords => Some(Fault::BadWords),
-            Status::ReadFault => Some(Fault::ReadFault),
-            Status::WriteFault => Some(Fault::WriteFault),
-            Status::Memory => Some(Fault::Memory),
-            Status::NotYet => Some(Fault::NotYet),
-        }
-    }
-
     /// Prints the status's line on standard error; `Done` has none. The error is that of the stream.
     pub fn report(self, rt: &impl Eprint) -> io::Result<()> {
-        match self.fault() {
-            Some(fault) => rt.eprintln(fault),
-            None => Ok(()),
+        match self {
+            Status::Done => Ok(()),
+            _ => rt.eprintln(self),
         }
-    }
-}
-
-#[cfg(test)]
-mod tests {
-    use super::*;
-    use std::test::Fail;
-
-    #[test]
-    fn lines_on_standard_error(rt: HostRuntime) -> Result<(), Fail> {
-        for (status, want) in [
-            (
-                Status::BadScript {
-                    line: 0,
-                    kind: ScriptKind::TooLong,
-                },
-                "pgq: line 0: TooLong",
-            ),
-            (
-                Status::BadScript {
-                    line: 3,
-                    kind: ScriptKind::NotText,
-                },
-                "pgq: line 3: NotText",
-            ),
-            (
-                Status::BadScript {
-                    line: 1,
-                    kind: ScriptKind::Section,
-                },
-                "pgq: line 1: Section",
-            ),
-            (
-                Status::BadScript {
-                    line: 70,
-                    kind: ScriptKind::Sessions,
-                },
-                "pgq: line 70: Sessions",
-            ),
-            (
-                Status::BadScript {
-                    line: 4294967295,
-                    kind: ScriptKind::Statements,
-                },
-                "pgq: line 4294967295: Statements",
-            ),
-            (
-                Status::BadScript {
-                    line: 12,
-                    kind: ScriptKind::AfterName,
-                },
-                "pgq: line 12: AfterName",
-            ),
-            (Status::BadWords, "pgq: bad words"),
-            (Status::ReadFault, "pgq: read fault"),
-            (Status::WriteFault, "pgq: write fault"),
-            (Status::Memory, "pgq: no memory"),
-            (Status::NotYet, "pgq: not yet"),
-        ] {
-            let fault = status.fault().ok_or("no line")?;
-            assert_eq!(rt; fault.to_string(rt.alloc())?.as_str(), want);
-        }
-        assert!(rt; Status::Done.fault().is_none());
-        Ok(())
     }
 }

@@ -1,13 +1,14 @@
 //! A stepped run from source to sink.
 ghost use Rattle.std.specs.Prelude.{◌≡◌, ◌≤◌, IfOk, IfErr};
 ghost use Rattle.pgq.specs.declared.step.NoText.TheVariants as no_text;
-ghost use Rattle.pgq.specs.Headline.{StepMeans, IsTextOf, IsNoText};
+ghost use Rattle.pgq.specs.Headline.{StepMeans, IsTextOfRun, IsTextOf, IsNoText};
+ghost use Rattle.pgq.specs.Sections.{IsRunnable};
 
 use crate::bytes::{ReadError, read_all, write_all};
 use crate::run::run;
 use crate::status::Status;
 use pg_outside::{Sink, Source};
-use pg_script::{ScriptFault, ScriptKind, print, split};
+use pg_script::{Script, ScriptFault, ScriptKind, print, scripts_are_whole, split};
 use pg_value::Text;
 use std::alloc::{AllocError, Global};
 
@@ -16,7 +17,7 @@ const MOST_BYTES: usize = 16777216;
 
 /// Why no transcript was made: the bytes are no script, or one of two or more sessions, which is not run yet, or memory was
 /// wanted.
-#[derive(Clone, Copy, Debug, PartialEq, Eq)]
+#[derive(Clone, Copy)]
 pub enum NoText {
     Bad { line: u32, kind: ScriptKind },
     NotYet,
@@ -31,8 +32,17 @@ impl From<AllocError> for NoText {
     }
 }
 
+/// The text of the transcript of a script that runs.
+fn script_text(alloc: Global, script: &Script) -> Result<Text, AllocError>
+    requires { IsRunnable script.now }
+    ensures { IfOk result (IsTextOfRun script.now) }
+{
+    let transcript = run(alloc, script)?;
+    print(alloc, &transcript)
+}
+
 /// The text of the transcript of the script that these bytes are.
-#[tactic(auto, using(crate::specs::Runnable::is_runnable))]
+#[tactic(auto, using(crate::proofs::Runs::Runnable::is_runnable, crate::proofs::Runs::Runnable::is_text))]
 fn transcript_text(alloc: Global, bytes: &[u8]) -> Result<Text, NoText>
     ensures text { IfOk result (IsTextOf bytes.now) }
     ensures none { IfErr result (IsNoText bytes.now) }
@@ -45,8 +55,8 @@ fn transcript_text(alloc: Global, bytes: &[u8]) -> Result<Text, NoText>
     if script.sections.len() > 2 {
         return Err(NoText::NotYet);
     }
-    let transcript = run(alloc, &script)?;
-    let text = print(alloc, &transcript)?;
+    scripts_are_whole();
+    let text = script_text(alloc, &script)?;
     Ok(text)
 }
 

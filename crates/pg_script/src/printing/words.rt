@@ -1,20 +1,96 @@
+//! The parts of a line: names, values, keys and rows, and the numbers behind their words.
 ghost use Rattle.std.specs.Prelude.{◌≡◌, ◌++◌, OnOk, map};
 ghost use Rattle.std.specs.List.{list_all};
 ghost use Rattle.pg_script.specs.Text as spec;
-ghost use Rattle.pg_script.specs.Text.{listed, name_text, place_text, tuple_text, values_text, from_text, at_text, held_text, row_text};
+ghost use Rattle.pg_script.specs.Text.{listed, name_text, place_text, tuple_text, values_text, at_text, from_text, line};
 
+use super::Printer;
 use pg_value::{Key, Text, Value, print_value};
-use std::alloc::{AllocError, Global};
+use std::alloc::AllocError;
 
-/// Appends the name of a table, a graph or a column: as it is where it is plain, else between `"` with each `"` inside it
-/// twice.
-pub fn push_name(out: &mut Text, name: &Text) -> Result<(), AllocError>
-    ensures { OnOk result (out.new ≡ out.old ++ name_text name.now) }
-{
-    if is_plain(name.as_bytes()) {
-        out.push_str(name.as_str())
-    } else {
-        out.push_quoted(name.as_str(), '"')
+impl Printer {
+    /// Appends the name of a table, a graph or a column: as it is where it is plain, else between `"` with each `"` inside it
+    /// twice.
+    pub fn push_name(&mut self, name: &Text) -> Result<(), AllocError>
+        ensures { OnOk result (self.new ≡ self.old ++ name_text name.now) }
+    {
+        if is_plain(name.as_bytes()) {
+            self.text.push_str(name.as_str())
+        } else {
+            self.text.push_quoted(name.as_str(), '"')
+        }
+    }
+
+    /// Appends names with a comma and a space between.
+    pub fn push_names(&mut self, names: &[Text]) -> Result<(), AllocError>
+        ensures { OnOk result (self.new ≡ self.old ++ listed (map name_text names.now)) }
+    {
+        match names {
+            [] => Ok(()),
+            [name] => self.push_name(name),
+            [name, more @ ..] => {
+                self.push_name(name)?;
+                self.text.push_str(", ")?;
+                self.push_names(more)
+            }
+        }
+    }
+
+    /// Appends values with a comma and a space between.
+    pub fn push_values(&mut self, values: &[Value]) -> Result<(), AllocError>
+        ensures { OnOk result (self.new ≡ self.old ++ values_text values.now) }
+    {
+        match values {
+            [] => Ok(()),
+            [value] => print_value(self.alloc, value, &mut self.text),
+            [value, more @ ..] => {
+                print_value(self.alloc, value, &mut self.text)?;
+                self.text.push_str(", ")?;
+                self.push_values(more)
+            }
+        }
+    }
+
+    /// Appends a key or a row in parentheses.
+    pub fn push_tuple(&mut self, values: &[Value]) -> Result<(), AllocError>
+        ensures { OnOk result (self.new ≡ self.old ++ tuple_text values.now) }
+    {
+        self.text.push_str("(")?;
+        self.push_values(values)?;
+        self.text.push_str(")")
+    }
+
+    /// Appends `TABLE KEY`.
+    pub fn push_place(&mut self, table: &Text, key: &Key) -> Result<(), AllocError>
+        ensures { OnOk result (self.new ≡ self.old ++ place_text table.now key.now.values) }
+    {
+        self.push_name(table)?;
+        self.text.push_str(" ")?;
+        self.push_tuple(key.values.as_slice())
+    }
+
+    /// Appends ` from K`, and ends the line.
+    pub fn push_from(&mut self, from: u64) -> Result<(), AllocError>
+        ensures { OnOk result (self.new ≡ self.old ++ line (from_text from)) }
+    {
+        self.text
+            .push_str(format!(in self.alloc; " from {from}\n")?.as_str())
+    }
+
+    /// Appends ` from K at C`, and ends the line.
+    pub fn push_from_at(&mut self, from: u64, at: u64) -> Result<(), AllocError>
+        ensures { OnOk result (self.new ≡ self.old ++ line (from_text from ++ at_text at)) }
+    {
+        self.text
+            .push_str(format!(in self.alloc; " from {from} at {at}\n")?.as_str())
+    }
+
+    /// Appends ` at K`, and ends the line.
+    pub fn push_at(&mut self, at: u64) -> Result<(), AllocError>
+        ensures { OnOk result (self.new ≡ self.old ++ line (at_text at)) }
+    {
+        self.text
+            .push_str(format!(in self.alloc; " at {at}\n")?.as_str())
     }
 }
 
@@ -28,100 +104,23 @@ fn is_plain(name: &[u8]) -> bool
     }
 }
 
+/// Whether the bytes are upper-case letters, `_` and digits alone.
 fn are_upper_or_digits(bytes: &[u8]) -> bool
     ensures { result ≡ list_all spec.is_upper_or_digit bytes.now }
 {
     bytes.iter().all(|byte| is_upper_or_digit(*byte))
 }
 
+/// Whether the byte is an upper-case letter or `_`.
 fn is_upper(byte: u8) -> bool
     ensures { result ≡ spec.is_upper byte }
 {
     (byte >= b'A' && byte <= b'Z') || byte == b'_'
 }
 
+/// Whether the byte is one of those or a digit.
 fn is_upper_or_digit(byte: u8) -> bool
     ensures { result ≡ spec.is_upper_or_digit byte }
 {
     is_upper(byte) || (byte >= b'0' && byte <= b'9')
-}
-
-/// Appends names with a comma and a space between.
-pub fn push_names(out: &mut Text, names: &[Text]) -> Result<(), AllocError>
-    ensures { OnOk result (out.new ≡ out.old ++ listed (map name_text names.now)) }
-{
-    match names {
-        [] => Ok(()),
-        [name] => push_name(out, name),
-        [name, more @ ..] => {
-            push_name(out, name)?;
-            out.push_str(", ")?;
-            push_names(out, more)
-        }
-    }
-}
-
-/// Appends values with a comma and a space between.
-pub fn push_values(alloc: Global, out: &mut Text, values: &[Value]) -> Result<(), AllocError>
-    ensures { OnOk result (out.new ≡ out.old ++ values_text values.now) }
-{
-    match values {
-        [] => Ok(()),
-        [value] => print_value(alloc, value, out),
-        [value, more @ ..] => {
-            print_value(alloc, value, out)?;
-            out.push_str(", ")?;
-            push_values(alloc, out, more)
-        }
-    }
-}
-
-/// Appends a key or a row in parentheses.
-pub fn push_tuple(alloc: Global, out: &mut Text, values: &[Value]) -> Result<(), AllocError>
-    ensures { OnOk result (out.new ≡ out.old ++ tuple_text values.now) }
-{
-    out.push_str("(")?;
-    push_values(alloc, out, values)?;
-    out.push_str(")")
-}
-
-/// Appends `TABLE KEY`.
-pub fn push_place(alloc: Global, out: &mut Text, table: &Text, key: &Key) -> Result<(), AllocError>
-    ensures { OnOk result (out.new ≡ out.old ++ place_text table.now key.now.values) }
-{
-    push_name(out, table)?;
-    out.push_str(" ")?;
-    push_tuple(alloc, out, key.values.as_slice())
-}
-
-/// Appends ` at K`.
-pub fn push_at(alloc: Global, out: &mut Text, at: u64) -> Result<(), AllocError>
-    ensures { OnOk result (out.new ≡ out.old ++ at_text at) }
-{
-    out.push_str(" at ")?;
-    out.push_number(alloc, at)
-}
-
-/// Appends ` from K`.
-pub fn push_from(alloc: Global, out: &mut Text, from: u64) -> Result<(), AllocError>
-    ensures { OnOk result (out.new ≡ out.old ++ from_text from) }
-{
-    out.push_str(" from ")?;
-    out.push_number(alloc, from)
-}
-
-/// Appends ` row R`.
-pub fn push_row_number(alloc: Global, out: &mut Text, row: u64) -> Result<(), AllocError>
-    ensures { OnOk result (out.new ≡ out.old ++ row_text row) }
-{
-    out.push_str(" row ")?;
-    out.push_number(alloc, row)
-}
-
-/// Appends ` held H`.
-pub fn push_held(alloc: Global, out: &mut Text, held: u64) -> Result<(), AllocError>
-    ensures { OnOk result (out.new ≡ out.old ++ held_text held) }
-{
-    out.push_str(" held ")?;
-    out.push_number(alloc, held)
 }

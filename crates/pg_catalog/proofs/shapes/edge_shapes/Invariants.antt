@@ -1,5 +1,5 @@
 use Rattle.std.proofs.Common.{◌≡◌, ◌++◌}
-use Rattle.pg_ast.specs.EntryShapes as spec
+use Rattle.pg_rules.specs.Catalog.Shapes as spec
 use Rattle.pg_catalog.proofs.shapes.edge_shapes.Given as goal
 
 abbrev pub invariant-loop-graph : goal.invariant-loop-graph

@@ -1,5 +1,5 @@
 use Rattle.std.proofs.Common.{◌≡◌, ◌++◌, take, map}
-use Rattle.pg_ast.specs.EntryShapes.{edge_shape}
+use Rattle.pg_rules.specs.Catalog.Shapes.{edge_shape}
 use Rattle.pg_catalog.proofs.shapes.push_edges.Given as goal
 
 abbrev pub invariant-loop-edge : goal.invariant-loop-edge

@@ -1,5 +1,5 @@
 use Rattle.std.proofs.Common.{◌∙◌, sym}
-use Rattle.pg_check.specs.OneHopCheck.{check_fault}
+use Rattle.pg_rules.specs.Queries.OneHop.{check_fault}
 use Rattle.pg_check.proofs.HopLaws.{fault_is, past_graph}
 use Rattle.pg_check.proofs.check.check_one_hop.Goals as goal
 

@@ -2,8 +2,8 @@ use Rattle.std.proofs.Common.{◌∙◌, ◌++◌, ◌∷◌, [], ℕ, zero-add,
 use Rattle.std.specs.Prelude.{Option}
 use Rattle.std.specs.List.{range_with_len}
 use Rattle.std.proofs.lemmas.List.FromFn.{map-range_with_len_more}
-use Rattle.pg_ast.specs.CatalogLookUps.{table_number}
-use Rattle.pg_ast.specs.GraphLookUps.{property_at}
+use Rattle.pg_rules.specs.Catalog.LookUps.{table_number}
+use Rattle.pg_rules.specs.Catalog.GraphLookUps.{property_at}
 use Rattle.pg_check.proofs.columns.columns_of.Goals as goal
 
 pub loop-table-preserved : goal.loop-table-preserved

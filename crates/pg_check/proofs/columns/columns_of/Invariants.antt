@@ -1,7 +1,7 @@
 use Rattle.std.proofs.Common.{◌≡◌, map}
 use Rattle.std.specs.List.{range_with_len}
-use Rattle.pg_ast.specs.CatalogLookUps.{table_number}
-use Rattle.pg_ast.specs.GraphLookUps.{property_at}
+use Rattle.pg_rules.specs.Catalog.LookUps.{table_number}
+use Rattle.pg_rules.specs.Catalog.GraphLookUps.{property_at}
 use Rattle.pg_check.proofs.columns.columns_of.Given as goal
 
 abbrev pub invariant-loop-table : goal.invariant-loop-table

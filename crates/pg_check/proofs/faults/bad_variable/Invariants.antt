@@ -1,8 +1,8 @@
 use Rattle.std.proofs.Common.{◌≡◌, drop}
 use Rattle.std.specs.List.{flat_map}
-use Rattle.pg_ast.specs.FaultPlaces.{least, sooner}
+use Rattle.pg_rules.specs.Places.{least, sooner}
 use Rattle.pg_check.specs.HopForm.{three}
-use Rattle.pg_check.specs.OneHopCheck.{reference, unknown_variable}
+use Rattle.pg_rules.specs.Queries.OneHop.{reference, unknown_variable}
 use Rattle.pg_check.proofs.faults.bad_variable.Given as goal
 
 abbrev pub invariant-loop-item : goal.invariant-loop-item

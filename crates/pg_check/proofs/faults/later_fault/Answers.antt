@@ -1,6 +1,6 @@
 use Rattle.std.proofs.Common.{◌∙◌, List, ap}
 use Rattle.pg_ast.specs.declared.pattern.ColumnItem.{ColumnItem}
-use Rattle.pg_ast.specs.GraphLookUps.{graph_numbered}
+use Rattle.pg_rules.specs.Catalog.GraphLookUps.{graph_numbered}
 use Rattle.pg_check.specs.HopForm.{fault_among, three}
 use Rattle.pg_check.proofs.HopLaws.{same_fault}
 use Rattle.pg_check.proofs.faults.later_fault.Goals as goal

@@ -1,8 +1,8 @@
 use Rattle.std.proofs.Common.{◌≡◌, drop}
 use Rattle.std.specs.List.{flat_map}
-use Rattle.pg_ast.specs.FaultPlaces.{least, sooner}
+use Rattle.pg_rules.specs.Places.{least, sooner}
 use Rattle.pg_check.specs.HopForm.{unnamed}
-use Rattle.pg_check.specs.OneHopCheck.{reference}
+use Rattle.pg_rules.specs.Queries.OneHop.{reference}
 use Rattle.pg_check.proofs.faults.no_property.Given as goal
 
 abbrev pub invariant-loop-item : goal.invariant-loop-item

@@ -1,6 +1,6 @@
 use Rattle.std.proofs.Common.{ap, sym}
-use Rattle.pg_ast.specs.Exprs.{is_unary, is_binary, is_agg}
-use Rattle.pg_check.specs.OneHopCheck.{reference_in}
+use Rattle.pg_ast.specs.Trees.{is_unary, is_binary, is_agg}
+use Rattle.pg_rules.specs.Queries.OneHop.{reference_in}
 use Rattle.pg_check.proofs.form.reference_in.Goals as goal
 
 pub returns-in-Unary : goal.returns-in-Unary

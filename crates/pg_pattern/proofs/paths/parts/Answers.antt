@@ -1,8 +1,9 @@
+-- One more part.
 use Rattle.std.proofs.Common.{rules, arith}
 use Rattle.std.proofs.lemmas.Grind.{common_steps}
-use Rattle.pg_phrase.specs.Reading.{turns}
-use Rattle.pg_phrase.specs.Sets.{any}
-use Rattle.pg_pattern.specs.ReadPatterns.{next_block, parts_on}
+use Rattle.pg_grammar.specs.Kit.Reading.{turns}
+use Rattle.pg_grammar.specs.Kit.Sets.{any}
+use Rattle.pg_pattern.specs.Read.Patterns.{next_block, parts_on}
 use Rattle.pg_pattern.proofs.Turns.{one_more}
 use Rattle.pg_pattern.proofs.paths.parts.Goals as goal
 

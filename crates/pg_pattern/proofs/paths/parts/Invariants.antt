@@ -1,7 +1,8 @@
+-- What the loop over the parts of a path pattern keeps.
 use Rattle.std.proofs.Common.{◌≡◌, ◌-◌}
-use Rattle.pg_phrase.specs.Reading.{turns}
-use Rattle.pg_phrase.specs.Sets.{any}
-use Rattle.pg_pattern.specs.ReadPatterns.{parts, next_block, parts_on}
+use Rattle.pg_grammar.specs.Kit.Reading.{turns}
+use Rattle.pg_grammar.specs.Kit.Sets.{any}
+use Rattle.pg_pattern.specs.Read.Patterns.{parts, next_block, parts_on}
 use Rattle.pg_pattern.proofs.paths.parts.Given as goal
 
 abbrev pub invariant-loop-turn : goal.invariant-loop-turn

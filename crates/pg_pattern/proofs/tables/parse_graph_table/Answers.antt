@@ -1,6 +1,7 @@
+-- The query at a place, or the first fault.
 use Rattle.std.proofs.Common.{◌≡◌, ◌-◌, length, refl, sym, ap, subst, ◌∙◌, arith}
-use Rattle.pg_ast.specs.GrammarQueries.{QueryAt, FirstFault}
-use Rattle.pg_pattern.specs.ReadQueries as parser
+use Rattle.pg_ast.specs.Grammar.Queries.{QueryAt, FirstFault}
+use Rattle.pg_pattern.specs.Read as parser
 use Rattle.pg_pattern.proofs.QueryPlaces.{from-slice, found, left, only, never, fault, failed-so}
 use Rattle.pg_pattern.proofs.tables.parse_graph_table.Goals as goal
 

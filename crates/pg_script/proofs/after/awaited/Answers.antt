@@ -1,8 +1,8 @@
 use Rattle.std.proofs.Common.{List, ℕ, sym, subst, ◌∙◌}
 use Rattle.std.specs.Prelude.{MatchOption}
 use Rattle.pg_script.specs.After.{IsAfter}
-use Rattle.pg_script.specs.Awaited.{HasAwaited}
-use Rattle.pg_script.proofs.Afters.{begins_long, no_after, no_behind, awaits}
+use Rattle.pg_script.specs.Passes.Awaited.{HasAwaited}
+use Rattle.pg_script.proofs.Passes.After.{begins_long, no_after, no_behind, awaits}
 use Rattle.pg_script.proofs.after.awaited.Goals as goal
 
 pub returns-then-not-begins_after : goal.returns-then-not-begins_after

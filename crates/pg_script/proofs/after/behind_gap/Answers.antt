@@ -1,4 +1,4 @@
-use Rattle.pg_script.proofs.Afters.{no_gap}
+use Rattle.pg_script.proofs.Passes.After.{no_gap}
 use Rattle.pg_script.proofs.after.behind_gap.Goals as goal
 
 pub returns-then-len-eq0 : goal.returns-then-len-eq0

@@ -2,8 +2,8 @@ use Rattle.std.proofs.Common.{◌≡◌, List, [], ℕ, length, sym, subst, ◌�
 use Rattle.std.specs.Prelude.{MatchOption, true, false}
 use Rattle.std.proofs.lemmas.List.{nil_from_length}
 use Rattle.std.proofs.lemmas.Bool.{eqb-true}
-use Rattle.pg_script.specs.Awaited.{HasNumber}
-use Rattle.pg_script.proofs.Afters.{no_digits, no_tail}
+use Rattle.pg_script.specs.Passes.Awaited.{HasNumber}
+use Rattle.pg_script.proofs.Passes.After.{no_digits, no_tail}
 use Rattle.pg_script.proofs.after.digits_behind.Goals as goal
 use Rattle.pg_script.proofs.after.digits_behind.Goals.{then-is_empty-via-then-is_empty, then-is_empty-via-else-is_empty+then-not-ends}
 

@@ -2,7 +2,7 @@ use Rattle.std.proofs.Common.{ap, ◌∙◌, ◌∷◌, [], ℕ, List}
 use Rattle.std.specs.Str.{bytes_eq}
 use Rattle.std.proofs.lemmas.Slice.Eq.{slice_eq-Decides}
 use Rattle.std.proofs.lemmas.Bool.Decides.{Decides-eqb}
-use Rattle.pg_script.proofs.Afters.{ends_is}
+use Rattle.pg_script.proofs.Passes.After.{ends_is}
 use Rattle.pg_script.proofs.after.ends.Goals as goal
 
 pub returns : goal.returns

@@ -1,7 +1,7 @@
 use Rattle.std.proofs.Common.{List, ℕ, sym, subst, ◌∙◌}
 use Rattle.std.specs.Prelude.{MatchOption}
-use Rattle.pg_script.specs.Awaited.{HasName}
-use Rattle.pg_script.proofs.Afters.{no_name, no_number}
+use Rattle.pg_script.specs.Passes.Awaited.{HasName}
+use Rattle.pg_script.proofs.Passes.After.{no_name, no_number}
 use Rattle.pg_script.proofs.after.name_and_digits.Goals as goal
 
 pub returns-in_err-rest : goal.returns-in_err-rest

@@ -1,6 +1,6 @@
 use Rattle.std.proofs.Common.{◌≡◌, ◌-◌, ◌+◌, ◌*◌, ◌^◌, get_or, refl, ap, ◌∙◌}
 use Rattle.std.specs.Prelude.{min}
-use Rattle.pg_script.proofs.Afters.{number_more}
+use Rattle.pg_script.proofs.Passes.After.{number_more}
 use Rattle.pg_script.proofs.after.number_of.Goals as goal
 
 pub loop-digit-preserved : goal.loop-digit-preserved

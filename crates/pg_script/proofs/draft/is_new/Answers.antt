@@ -1,5 +1,5 @@
-use Rattle.pg_script.specs.Reading.{parts_of}
-use Rattle.pg_script.proofs.DraftLaws.{found_old, found_new}
+use Rattle.pg_script.specs.Passes.{parts_of}
+use Rattle.pg_script.proofs.Passes.Drafts.{found_old, found_new}
 use Rattle.pg_script.proofs.draft.is_new.Goals as goal
 
 pub returns-in-Some : goal.returns-in-Some

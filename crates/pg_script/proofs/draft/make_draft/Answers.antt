@@ -2,9 +2,9 @@ use Rattle.std.proofs.Common.{◌≡◌, ◌+◌, List, [], ◌∷◌, ◌++◌,
 use Rattle.std.proofs.lemmas.List.{take_all}
 use Rattle.pg_script.specs.declared.parts.PartSpan.{PartSpan}
 use Rattle.pg_script.specs.Script.{Part, IsWrong}
-use Rattle.pg_script.specs.Reading.{part_of, parts_of, AreSpread}
-use Rattle.pg_script.specs.Drafts.{FaultOf, NoneOf, IsDraft, AreRight}
-use Rattle.pg_script.proofs.DraftLaws.{parts_at, parts_more, right_push, right_none, spread_at, within_first}
+use Rattle.pg_script.specs.Passes.{part_of, parts_of, AreSpread}
+use Rattle.pg_script.specs.Passes.Drafts.{FaultOf, NoneOf, IsDraft, AreRight}
+use Rattle.pg_script.proofs.Passes.Drafts.{parts_at, parts_more, right_push, right_none, spread_at, within_first}
 use Rattle.pg_script.proofs.draft.make_draft.Goals as goal
 
 pub add-requires-clause-lies : goal.add-requires-clause-lies
@@ -32,9 +32,9 @@ parts-preserved c =
     let more : parts_of bytes (take (c.parts.i + 1) spans) ≡ ps ++ p ∷ [] = parts_more bytes spans c.parts.i c.index-parts-i.result c.parts-test.true c.index-parts-i.is in
     let here : parts_of bytes c.split_at.result.0.now ≡ ps = ap (parts_of bytes) c.split_at.ensures.front in
     let right : NoneOf (IsWrong bytes ps p) = subst (λ (l : List Part). NoneOf (IsWrong bytes l p)) here c.in-Ok.ensures.right in
-    let drafted : IsDraft (ps ++ p ∷ []) c.add.new.draft = subst (λ (l : List Part). IsDraft (l ++ p ∷ []) c.add.new.draft) here c.in-Ok.ensures.drafted in
+    let drafted : IsDraft (ps ++ p ∷ []) c.add.new.self = subst (λ (l : List Part). IsDraft (l ++ p ∷ []) c.add.new.self) here c.in-Ok.ensures.drafted in
     record {
-      drafted = subst (λ (l : List Part). IsDraft l c.add.new.draft) (sym more) drafted;
+      drafted = subst (λ (l : List Part). IsDraft l c.add.new.self) (sym more) drafted;
       right = subst (AreRight bytes []) (sym more) (right_push bytes [] ps p c.parts.invariant.right right);
     }
 

@@ -1,6 +1,6 @@
 use Rattle.std.proofs.Common.{[], take}
-use Rattle.pg_script.specs.Reading.{parts_of}
-use Rattle.pg_script.specs.Drafts.{IsDraft, AreRight}
+use Rattle.pg_script.specs.Passes.{parts_of}
+use Rattle.pg_script.specs.Passes.Drafts.{IsDraft, AreRight}
 use Rattle.pg_script.proofs.draft.make_draft.Given as goal
 
 abbrev pub invariant-parts : goal.invariant-parts

@@ -1,8 +1,8 @@
 use Rattle.std.proofs.Common.{◌≡◌, ◌≤◌, ◌∙◌, None, Some, ℕ, List, sym, subst, ap, map, get_or, arith}
 use Rattle.pg_script.specs.declared.statements.Span.{Span}
-use Rattle.pg_script.specs.Reading.{parts_of, turn_at, cut}
-use Rattle.pg_script.specs.Drafts.{FaultOf, HasUnknown, find_session}
-use Rattle.pg_script.proofs.DraftLaws.{section_small, turn_found, unknown_first, turns_more}
+use Rattle.pg_script.specs.Passes.{parts_of, turn_at, cut}
+use Rattle.pg_script.specs.Passes.Drafts.{FaultOf, HasUnknown, find_session}
+use Rattle.pg_script.proofs.Passes.Drafts.{section_small, turn_found, unknown_first, turns_more}
 use Rattle.pg_script.proofs.draft.turns_of.Goals as goal
 
 pub overflow_cast-section : goal.overflow_cast-section

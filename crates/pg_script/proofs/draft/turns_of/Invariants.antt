@@ -1,7 +1,7 @@
 use Rattle.std.proofs.Common.{map, take}
 use Rattle.std.specs.List.{AllZip}
 use Rattle.pg_script.specs.Script.{IsTurn}
-use Rattle.pg_script.specs.Reading.{parts_of, turn_at}
+use Rattle.pg_script.specs.Passes.{parts_of, turn_at}
 use Rattle.pg_script.proofs.draft.turns_of.Given as goal
 
 abbrev pub invariant-words : goal.invariant-words

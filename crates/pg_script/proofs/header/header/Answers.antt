@@ -1,8 +1,8 @@
 use Rattle.std.proofs.Common.{◌≡◌, ◌∙◌, take, drop, sym, ap, subst}
 use Rattle.std.specs.Prelude.{codes}
 use Rattle.pg_script.specs.Layout.{SaysSession}
-use Rattle.pg_script.specs.Reading.{name_len}
-use Rattle.pg_script.proofs.HeaderLaws.{says_is, says_not, session_is, session_not}
+use Rattle.pg_script.specs.Passes.{name_len}
+use Rattle.pg_script.proofs.Passes.SectionLines.{says_is, says_not, session_is, session_not}
 use Rattle.pg_script.proofs.header.header.Goals as goal
 
 pub returns-then-says-clause-is : goal.returns-then-says-clause-is

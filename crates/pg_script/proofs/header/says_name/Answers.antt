@@ -1,7 +1,7 @@
 use Rattle.std.proofs.Common.{◌≡◌, ◌∙◌, true, take, ap, sym, subst, List, ℕ}
 use Rattle.std.specs.List.{list_all}
 use Rattle.pg_script.specs.Layout.{is_name_byte}
-use Rattle.pg_script.proofs.HeaderLaws.{front_passes}
+use Rattle.pg_script.proofs.Texts.Front.{front_passes}
 use Rattle.pg_script.proofs.header.says_name.Goals as goal
 
 pub is_name-requires : goal.is_name-requires

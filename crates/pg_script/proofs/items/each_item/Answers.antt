@@ -1,7 +1,7 @@
 use Rattle.std.proofs.Common.{sym, subst, map}
-use Rattle.pg_script.specs.Reading.{parts_of, statement_at}
-use Rattle.pg_script.specs.Drafts.{FaultOf, HasBadAfter}
-use Rattle.pg_script.proofs.ItemLaws.{bad_first, good_more}
+use Rattle.pg_script.specs.Passes.{parts_of, statement_at}
+use Rattle.pg_script.specs.Passes.Drafts.{FaultOf, HasBadAfter}
+use Rattle.pg_script.proofs.Passes.Items.{bad_first, good_more}
 use Rattle.pg_script.proofs.items.each_item.Goals as goal
 
 pub returns-in-None-clause-err : goal.returns-in-None-clause-err

@@ -1,7 +1,7 @@
 use Rattle.std.proofs.Common.{map, take}
 use Rattle.std.specs.List.{AllZip}
-use Rattle.pg_script.specs.Reading.{parts_of, statement_at}
-use Rattle.pg_script.specs.Drafts.{IsGoodItem}
+use Rattle.pg_script.specs.Passes.{parts_of, statement_at}
+use Rattle.pg_script.specs.Passes.Drafts.{IsGoodItem}
 use Rattle.pg_script.proofs.items.each_item.Given as goal
 
 abbrev pub invariant-statements : goal.invariant-statements

@@ -7,10 +7,10 @@ use Rattle.pg_script.specs.declared.fault.ScriptKind.TheVariants as kinds
 use Rattle.pg_script.specs.declared.script.Item.{Item}
 use Rattle.pg_script.specs.declared.statements.Span.{Span}
 use Rattle.pg_script.specs.Script.{Part}
-use Rattle.pg_script.specs.Reading.{parts_of, statement_at}
+use Rattle.pg_script.specs.Passes.{parts_of, statement_at}
 use Rattle.pg_script.specs.Statements.{Statement}
-use Rattle.pg_script.specs.Drafts.{FirstOf, FaultOf, HasBadStatement, earlier}
-use Rattle.pg_script.proofs.ItemLaws.{few_first, good_many, earlier_first, get_at}
+use Rattle.pg_script.specs.Passes.Drafts.{FirstOf, FaultOf, HasBadStatement, earlier}
+use Rattle.pg_script.proofs.Passes.Items.{few_first, good_many, earlier_first, get_at}
 use Rattle.pg_script.proofs.items.items.Goals as goal
 use Rattle.pg_script.proofs.items.items.Goals.{in-Ok, in-Err}
 

@@ -1,6 +1,6 @@
 use Rattle.std.proofs.Common.{◌≡◌, ◌≤◌, ◌+◌, drop}
-use Rattle.pg_script.specs.Reading.{parts_of}
-use Rattle.pg_script.specs.Drafts.{find_session}
+use Rattle.pg_script.specs.Passes.{parts_of}
+use Rattle.pg_script.specs.Passes.Drafts.{find_session}
 use Rattle.pg_script.proofs.items.session_of.Given as goal
 
 abbrev pub invariant-sessions : goal.invariant-sessions

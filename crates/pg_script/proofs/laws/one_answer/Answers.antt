@@ -1,5 +1,5 @@
-use Rattle.pg_script.specs.OneScript.{script_once}
-use Rattle.pg_script.specs.OneFault.{script_right, fault_once}
+use Rattle.pg_script.proofs.One.Script.{script_once}
+use Rattle.pg_script.proofs.One.Fault.{script_right, fault_once}
 use Rattle.pg_script.proofs.laws.one_answer.Goals as goal
 
 pub returns-clause-one_script : goal.returns-clause-one_script

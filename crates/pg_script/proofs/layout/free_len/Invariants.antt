@@ -1,5 +1,5 @@
 use Rattle.std.proofs.Common.{◌≡◌, ◌+◌, true, drop}
-use Rattle.pg_script.specs.Reading.{section_at}
+use Rattle.pg_script.specs.Passes.{section_at}
 use Rattle.pg_script.proofs.layout.free_len.Given as goal
 
 abbrev pub invariant-bytes : goal.invariant-bytes

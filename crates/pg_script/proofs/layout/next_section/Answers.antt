@@ -1,4 +1,4 @@
-use Rattle.pg_script.proofs.LayoutLaws.{free_is}
+use Rattle.pg_script.proofs.Passes.Sections.{free_is}
 use Rattle.pg_script.proofs.layout.next_section.Goals as goal
 
 pub returns-clause-free : goal.returns-clause-free

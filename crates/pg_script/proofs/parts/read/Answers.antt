@@ -1,4 +1,4 @@
-use Rattle.pg_script.proofs.PartLaws.{begins_here, gathers_more, reading_is}
+use Rattle.pg_script.proofs.Passes.Parts.{begins_here, gathers_more, reading_is}
 use Rattle.pg_script.proofs.parts.read.Goals as goal
 
 pub read_part-requires-clause-begins : goal.read_part-requires-clause-begins

@@ -1,5 +1,5 @@
 use Rattle.std.proofs.Common.{◌-◌, length}
-use Rattle.pg_script.proofs.PartLaws.{Gathers}
+use Rattle.pg_script.proofs.Passes.Parts.{Gathers}
 use Rattle.pg_script.proofs.parts.read.Given as goal
 
 abbrev pub invariant-parts : goal.invariant-parts

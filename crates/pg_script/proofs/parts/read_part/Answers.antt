@@ -1,4 +1,4 @@
-use Rattle.pg_script.proofs.PartLaws.{part_is}
+use Rattle.pg_script.proofs.Passes.Parts.{part_is}
 use Rattle.pg_script.proofs.parts.read_part.Goals as goal
 
 pub returns : goal.returns

@@ -1,7 +1,7 @@
 use Rattle.std.proofs.Common.{List, ℕ, subst}
 use Rattle.std.proofs.lemmas.Result.{IfOk-weaker}
-use Rattle.pg_script.specs.Spans.{HasSpans}
-use Rattle.pg_script.proofs.PartLaws.{statements_found}
+use Rattle.pg_script.specs.Passes.Spans.{HasSpans}
+use Rattle.pg_script.proofs.Passes.Parts.{statements_found}
 use Rattle.pg_script.proofs.parts.statements_between.Goals as goal
 
 pub returns : goal.returns

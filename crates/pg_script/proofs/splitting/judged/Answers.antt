@@ -1,9 +1,9 @@
 use Rattle.std.proofs.Common.{List, ℕ, sym, subst, take}
 use Rattle.std.proofs.lemmas.Result.{MatchResult-weaker}
 use Rattle.pg_script.specs.Script.{Part}
-use Rattle.pg_script.specs.Reading.{parts_of}
-use Rattle.pg_script.specs.Drafts.{SplitFault}
-use Rattle.pg_script.proofs.SplitLaws.{early_first, split_fault, is_split}
+use Rattle.pg_script.specs.Passes.{parts_of}
+use Rattle.pg_script.specs.Passes.Drafts.{SplitFault}
+use Rattle.pg_script.proofs.Passes.Inputs.{early_first, split_fault, is_split}
 use Rattle.pg_script.proofs.splitting.judged.Goals as goal
 
 pub returns-in-Some : goal.returns-in-Some

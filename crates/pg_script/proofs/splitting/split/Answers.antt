@@ -1,6 +1,6 @@
 use Rattle.std.proofs.Common.{sym, subst}
 use Rattle.pg_script.specs.Script.{IsNoScript}
-use Rattle.pg_script.proofs.SplitLaws.{not_text}
+use Rattle.pg_script.proofs.Passes.Inputs.{not_text}
 use Rattle.pg_script.proofs.splitting.split.Goals as goal
 
 pub returns-in-Err-clause-fault : goal.returns-in-Err-clause-fault

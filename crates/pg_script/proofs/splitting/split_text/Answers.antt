@@ -1,4 +1,4 @@
-use Rattle.pg_script.proofs.SplitLaws.{no_script, is_text}
+use Rattle.pg_script.proofs.Passes.Inputs.{no_script, is_text}
 use Rattle.pg_script.proofs.splitting.split_text.Goals as goal
 
 pub returns-in-Err : goal.returns-in-Err

@@ -1,5 +1,5 @@
 use Rattle.std.proofs.Common.{rules}
-use Rattle.pg_script.proofs.Atoms.{comment_at, dash_begins, no_dash, none_dash}
+use Rattle.pg_script.proofs.Passes.Atoms.{comment_at, dash_begins, no_dash, none_dash}
 use Rattle.pg_script.proofs.statements.dash_len.Goals as goal
 
 pub returns-in-45-clause-begins : goal.returns-in-45-clause-begins

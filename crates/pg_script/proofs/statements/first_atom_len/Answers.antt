@@ -1,5 +1,5 @@
 use Rattle.std.proofs.Common.{◌≢◌, rules}
-use Rattle.pg_script.proofs.Atoms.{byte_begins}
+use Rattle.pg_script.proofs.Passes.Atoms.{byte_begins}
 use Rattle.pg_script.proofs.statements.first_atom_len.Goals as goal
 
 pub returns-in_default-clause-begins : goal.returns-in_default-clause-begins

@@ -1,5 +1,5 @@
 use Rattle.std.proofs.Common.{refl, inl, inr}
-use Rattle.pg_script.proofs.Spans.{front_is}
+use Rattle.pg_script.proofs.Passes.Spans.{front_is}
 use Rattle.pg_script.proofs.statements.front_piece.Goals as goal
 
 pub returns-then-gap-body : goal.returns-then-gap-body

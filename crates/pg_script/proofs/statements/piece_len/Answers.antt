@@ -1,5 +1,5 @@
 use Rattle.std.proofs.Common.{◌<◌, arith}
-use Rattle.pg_script.proofs.Atoms.{so_far_more}
+use Rattle.pg_script.proofs.Passes.Atoms.{so_far_more}
 use Rattle.pg_script.proofs.statements.piece_len.Goals as goal
 
 pub atoms-preserved : goal.atoms-preserved

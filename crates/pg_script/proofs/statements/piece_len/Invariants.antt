@@ -1,5 +1,5 @@
 use Rattle.std.proofs.Common.{◌≤◌, ◌-◌, length}
-use Rattle.pg_script.proofs.Atoms.{SoFar}
+use Rattle.pg_script.proofs.Passes.Atoms.{SoFar}
 use Rattle.pg_script.proofs.statements.piece_len.Given as goal
 
 abbrev pub invariant-atoms : goal.invariant-atoms

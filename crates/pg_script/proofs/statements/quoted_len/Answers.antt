@@ -1,4 +1,4 @@
-use Rattle.pg_script.proofs.Atoms.{unclosed_begins, quoted_begins}
+use Rattle.pg_script.proofs.Passes.Atoms.{unclosed_begins, quoted_begins}
 use Rattle.pg_script.proofs.statements.quoted_len.Goals as goal
 
 pub returns-then-inner-rest-clause-begins : goal.returns-then-inner-rest-clause-begins

@@ -1,6 +1,6 @@
 use Rattle.std.proofs.Common.{◌≡◌, ◌+◌, ◌≤◌, List, length, refl, sym, subst, arith}
 use Rattle.pg_script.specs.declared.statements.Span.{Span}
-use Rattle.pg_script.proofs.Spans.{Completes, completes_none, completes_more, completes_all}
+use Rattle.pg_script.proofs.Passes.Spans.{Completes, completes_none, completes_more, completes_all}
 use Rattle.pg_script.proofs.statements.statements.Goals as goal
 
 pub pieces-init : goal.pieces-init

@@ -1,5 +1,5 @@
 use Rattle.std.proofs.Common.{◌≤◌, ◌-◌, length}
-use Rattle.pg_script.proofs.Spans.{Completes}
+use Rattle.pg_script.proofs.Passes.Spans.{Completes}
 use Rattle.pg_script.proofs.statements.statements.Given as goal
 
 abbrev pub invariant-pieces : goal.invariant-pieces

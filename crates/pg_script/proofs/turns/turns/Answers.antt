@@ -1,5 +1,5 @@
 use Rattle.std.proofs.Common.{ℕ, ◌+◌}
-use Rattle.pg_script.proofs.TurnLaws.{Reads, reads_from, turns_more, turns_all}
+use Rattle.pg_script.proofs.Passes.Turns.{Reads, reads_from, turns_more, turns_all}
 use Rattle.pg_script.proofs.turns.turns.Goals as goal
 
 pub returns-then-len-eq0 : goal.returns-then-len-eq0

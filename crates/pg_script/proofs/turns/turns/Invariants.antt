@@ -1,5 +1,5 @@
 use Rattle.std.proofs.Common.{◌-◌}
-use Rattle.pg_script.proofs.TurnLaws.{Completes}
+use Rattle.pg_script.proofs.Passes.Turns.{Completes}
 use Rattle.pg_script.proofs.turns.turns.Given as goal
 
 abbrev pub invariant-words : goal.invariant-words

@@ -1,6 +1,6 @@
 use Rattle.std.proofs.Common.{◌≡◌, ◌∙◌, false, drop, sym, ap, arith}
-use Rattle.pg_script.specs.Reading.{ends_word}
-use Rattle.pg_script.proofs.TurnLaws.{word_next}
+use Rattle.pg_script.specs.Passes.{ends_word}
+use Rattle.pg_script.proofs.Passes.Turns.{word_next}
 use Rattle.pg_script.proofs.turns.word_len.Goals as goal
 
 pub bytes-preserved : goal.bytes-preserved

@@ -1,5 +1,5 @@
 use Rattle.std.proofs.Common.{◌≡◌, ◌≤◌, ◌+◌, ◌-◌, length, drop}
-use Rattle.pg_script.specs.Reading.{word_len}
+use Rattle.pg_script.specs.Passes.{word_len}
 use Rattle.pg_script.proofs.turns.word_len.Given as goal
 
 abbrev pub invariant-bytes : goal.invariant-bytes

@@ -1,9 +1,10 @@
+-- One more mark.
 use Rattle.std.proofs.Common.{rules, arith}
 use Rattle.std.proofs.lemmas.Grind.{common_steps}
-use Rattle.pg_ast.specs.StatementWords.{not_word, primary}
-use Rattle.pg_phrase.specs.Reading.{turns, sees_either}
-use Rattle.pg_sql.specs.ReadParts.{next}
-use Rattle.pg_sql.specs.ReadTables.{mark}
+use Rattle.pg_ast.specs.Words.{not_word, primary}
+use Rattle.pg_grammar.specs.Kit.Reading.{turns, sees_either}
+use Rattle.pg_sql.specs.Read.Parts.{next}
+use Rattle.pg_sql.specs.Read.Tables.{mark}
 use Rattle.pg_sql.proofs.Turns.{one_more}
 use Rattle.pg_sql.proofs.items.marks.Goals as goal
 

@@ -1,8 +1,9 @@
+-- What the loop over the labels keeps.
 use Rattle.std.proofs.Common.{◌≡◌, ◌-◌}
-use Rattle.pg_ast.specs.StatementWords as keyword
-use Rattle.pg_phrase.specs.Reading.{turns, sees_either}
-use Rattle.pg_sql.specs.ReadParts.{next}
-use Rattle.pg_sql.specs.ReadGraphs.{label, label_list}
+use Rattle.pg_ast.specs.Words as keyword
+use Rattle.pg_grammar.specs.Kit.Reading.{turns, sees_either}
+use Rattle.pg_sql.specs.Read.Parts.{next}
+use Rattle.pg_sql.specs.Read.Graphs.{label, label_list}
 use Rattle.pg_sql.proofs.labels.label_list.Given as goal
 
 abbrev pub invariant-loop-turn : goal.invariant-loop-turn

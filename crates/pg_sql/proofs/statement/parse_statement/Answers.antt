@@ -1,6 +1,7 @@
+-- The statement, or the first fault.
 use Rattle.std.proofs.Common.{ap, sym, ◌∙◌, subst}
-use Rattle.pg_sql.specs.ReadStatements as spec
-use Rattle.pg_ast.specs.GrammarStatements.{FirstFault}
+use Rattle.pg_sql.specs.Read as spec
+use Rattle.pg_ast.specs.Grammar.{FirstFault}
 use Rattle.pg_sql.proofs.StatementLaws.{found, fault, reads-only, same-tree, never-both, failed-so}
 use Rattle.pg_sql.proofs.statement.parse_statement.Goals as goal
 

@@ -1,6 +1,7 @@
+-- No mark so far is NOT NULL.
 use Rattle.std.proofs.Common.{◌≡◌, drop}
 use Rattle.std.specs.List.{list_any}
-use Rattle.pg_ast.specs.GrammarDefinitions.{is_not_null}
+use Rattle.pg_ast.specs.Grammar.Definitions.{is_not_null}
 use Rattle.pg_sql.proofs.tables.has_not_null.Given as goal
 
 abbrev pub invariant-loop-mark : goal.invariant-loop-mark

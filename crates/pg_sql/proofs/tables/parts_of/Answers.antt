@@ -1,8 +1,9 @@
+-- One more item.
 use Rattle.std.proofs.Common.{◌≡◌, [], ◌∷◌, ◌++◌, length, filter_map, flat_map, sym, ap, ◌∙◌, append_assoc, append-nil, arith}
 use Rattle.std.specs.Vec.Iter.{into_iter_items}
 use Rattle.std.proofs.lemmas.List.Elements.{filter_map-append}
 use Rattle.std.proofs.lemmas.Grind.{flat_map-append}
-use Rattle.pg_ast.specs.GrammarDefinitions.{column_of, keys_of}
+use Rattle.pg_ast.specs.Grammar.Definitions.{column_of, keys_of}
 use Rattle.pg_sql.proofs.tables.parts_of.Goals as goal
 
 pub loop-item-preserved : goal.loop-item-preserved

@@ -1,6 +1,7 @@
+-- What the items so far define.
 use Rattle.std.proofs.Common.{◌≡◌, ◌++◌, length, filter_map, flat_map}
 use Rattle.std.specs.Vec.Iter.{into_iter_items, into_iter_len}
-use Rattle.pg_ast.specs.GrammarDefinitions.{column_of, keys_of}
+use Rattle.pg_ast.specs.Grammar.Definitions.{column_of, keys_of}
 use Rattle.pg_sql.proofs.tables.parts_of.Given as goal
 
 abbrev pub invariant-loop-item : goal.invariant-loop-item

@@ -1,5 +1,5 @@
 use Rattle.std.proofs.Common.{◌≡◌, drop}
-use Rattle.pg_ast.specs.InsertEffect.{column_fault}
+use Rattle.pg_rules.specs.Changes.InsertEffect.{column_fault}
 use Rattle.pg_write.proofs.column.column_fault_in.Given as goal
 
 abbrev pub invariant-loop-i : goal.invariant-loop-i

@@ -1,7 +1,7 @@
 use Rattle.std.proofs.Common.{◌≡◌, [], ◌∷◌, None, IfOk, sym, ap, subst, ◌∙◌}
 use Rattle.pg_value.specs.Writes.{merge}
-use Rattle.pg_ast.specs.InsertEffect.{column_fault}
-use Rattle.pg_write.specs.RowPasses.{literal_row}
+use Rattle.pg_rules.specs.Changes.InsertEffect.{column_fault}
+use Rattle.pg_write.specs.FaultyRows.{literal_row}
 use Rattle.pg_write.proofs.EffectLaws.{behind, write_is}
 use Rattle.pg_write.proofs.effect.insert_tuple.Goals as goal
 

@@ -1,6 +1,6 @@
 use Rattle.std.proofs.Common.{sym, ap, ◌∙◌, drop, map, ◌+◌}
-use Rattle.pg_ast.specs.InsertEffect.{with_rows}
-use Rattle.pg_write.specs.RowPasses.{literal_row, fault_behind, first_faulty}
+use Rattle.pg_rules.specs.Changes.InsertEffect.{with_rows}
+use Rattle.pg_write.specs.FaultyRows.{literal_row, fault_behind, first_faulty}
 use Rattle.pg_write.proofs.EffectLaws.{stops, passes, written_on}
 use Rattle.pg_write.proofs.effect.insert_tuples.Goals as goal
 

@@ -1,6 +1,6 @@
 use Rattle.std.proofs.Common.{◌≡◌, drop, map}
-use Rattle.pg_ast.specs.InsertEffect.{with_rows}
-use Rattle.pg_write.specs.RowPasses.{first_faulty, literal_row}
+use Rattle.pg_rules.specs.Changes.InsertEffect.{with_rows}
+use Rattle.pg_write.specs.FaultyRows.{first_faulty, literal_row}
 use Rattle.pg_write.proofs.effect.insert_tuples.Given as goal
 
 -- what is left, behind the writes so far, gives what all gives

@@ -1,4 +1,4 @@
-use Rattle.pg_write.specs.FitLaws.{writes_fit}
+use Rattle.pg_write.proofs.FitLaws.{writes_fit}
 use Rattle.pg_write.proofs.laws.writes_fit.Goals as goal
 
 pub returns : goal.returns

@@ -1,6 +1,6 @@
 use Rattle.std.proofs.Common.{◌≡◌, drop}
 use Rattle.std.specs.List.{list_all}
-use Rattle.pg_write.specs.PlainInsert.{has_literals}
+use Rattle.pg_rules.specs.Changes.PlainInsert.{has_literals}
 use Rattle.pg_write.proofs.plain.have_literals.Given as goal
 
 abbrev pub invariant-loop-tuple : goal.invariant-loop-tuple

@@ -1,7 +1,7 @@
 use Rattle.std.proofs.Common.{◌≡◌, drop}
 use Rattle.std.specs.List.{flat_map}
-use Rattle.pg_ast.specs.FaultPlaces.{least, sooner}
-use Rattle.pg_write.specs.ValuePasses.{miscounted}
+use Rattle.pg_rules.specs.Places.{least, sooner}
+use Rattle.pg_write.specs.LiteralFaults.{miscounted}
 use Rattle.pg_write.proofs.resolve.count.Given as goal
 
 abbrev pub invariant-loop-tuple : goal.invariant-loop-tuple

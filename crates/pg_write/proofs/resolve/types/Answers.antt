@@ -1,7 +1,7 @@
 use Rattle.std.proofs.Common.{ap, ◌∙◌}
-use Rattle.pg_ast.specs.FaultPlaces.{least}
+use Rattle.pg_rules.specs.Places.{least}
 use Rattle.pg_ast.specs.declared.statement.InsertTuple.{InsertTuple}
-use Rattle.pg_write.specs.ValuePasses.{wrong_from}
+use Rattle.pg_write.specs.LiteralFaults.{wrong_from}
 use Rattle.pg_write.proofs.Loops.{next_place}
 use Rattle.pg_write.proofs.resolve.types.Goals as goal
 

@@ -1,6 +1,6 @@
 use Rattle.std.proofs.Common.{◌≡◌, drop}
-use Rattle.pg_ast.specs.FaultPlaces.{least, sooner}
-use Rattle.pg_write.specs.ValuePasses.{wide_in}
+use Rattle.pg_rules.specs.Places.{least, sooner}
+use Rattle.pg_write.specs.LiteralFaults.{wide_in}
 use Rattle.pg_write.proofs.resolve.wide_in.Given as goal
 
 abbrev pub invariant-loop-value : goal.invariant-loop-value

@@ -1,5 +1,5 @@
 use Rattle.std.proofs.Common.{sym, ap}
-use Rattle.pg_ast.specs.FaultPlaces.{least}
+use Rattle.pg_rules.specs.Places.{least}
 use Rattle.pg_write.proofs.Literals.{otherwise}
 use Rattle.pg_write.proofs.resolve.wide_literal.Goals as goal
 

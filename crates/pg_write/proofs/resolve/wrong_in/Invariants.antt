@@ -1,6 +1,6 @@
 use Rattle.std.proofs.Common.{◌≡◌, drop}
-use Rattle.pg_ast.specs.FaultPlaces.{least, sooner}
-use Rattle.pg_write.specs.ValuePasses.{wrong_from}
+use Rattle.pg_rules.specs.Places.{least, sooner}
+use Rattle.pg_write.specs.LiteralFaults.{wrong_from}
 use Rattle.pg_write.proofs.resolve.wrong_in.Given as goal
 
 abbrev pub invariant-loop-i : goal.invariant-loop-i

@@ -1,7 +1,7 @@
 use Rattle.std.proofs.Common.{arith}
 use Rattle.std.proofs.lemmas.Grind.{common_steps}
 use Rattle.std.proofs.lemmas.List.FromFn.{map-range_with_len_more}
-use Rattle.pg_write.specs.RowPasses.{value_at}
+use Rattle.pg_write.specs.FaultyRows.{value_at}
 use Rattle.pg_write.proofs.row.values_of.Goals as goal
 
 pub loop-place-preserved : goal.loop-place-preserved

@@ -1,6 +1,6 @@
 use Rattle.std.proofs.Common.{◌≡◌, map}
 use Rattle.std.specs.List.{range_with_len}
-use Rattle.pg_write.specs.RowPasses.{value_at}
+use Rattle.pg_write.specs.FaultyRows.{value_at}
 use Rattle.pg_write.proofs.row.values_of.Given as goal
 
 abbrev pub invariant-loop-place : goal.invariant-loop-place

@@ -1,6 +1,6 @@
 use Rattle.std.proofs.Common.{◌++◌, take, arith}
 use Rattle.std.proofs.lemmas.Grind.{common_steps}
-use Rattle.pgq.proofs.Known.{Consumes-join}
+use Rattle.pgq.proofs.KnownBytes.{Consumes-join}
 use Rattle.pgq.proofs.bytes.read_all.Goals as goal
 
 pub returns-in-Err-extend_from_slice-clause-some : goal.returns-in-Err-extend_from_slice-clause-some

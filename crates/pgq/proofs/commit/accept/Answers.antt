@@ -3,7 +3,7 @@ use Rattle.pg_keyed.specs.Keyed.{Ascends, Each}
 use Rattle.pg_value.specs.Order.{key_cmp}
 use Rattle.pg_value.specs.TablesLaws.{key_named, put_in}
 use Rattle.pgq.specs.Commits.{HasRow}
-use Rattle.pgq.proofs.CommitLaws.{still_ready, list_ascends, writes_ascend_by_key, all_rows}
+use Rattle.pgq.proofs.Commits.StillReady.{still_ready, list_ascends, writes_ascend_by_key, all_rows}
 use Rattle.pgq.proofs.commit.accept.Goals as goal
 
 pub put_in_table-requires-clause-ascends : goal.put_in_table-requires-clause-ascends

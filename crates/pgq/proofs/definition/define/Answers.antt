@@ -1,7 +1,7 @@
 use Rattle.std.proofs.Common.{refl, ap, arith}
-use Rattle.pgq.specs.SoundGraphs.{sound_then}
-use Rattle.pgq.proofs.Outcomes.{in_session_is}
-use Rattle.pgq.proofs.Defined.{ready_ok, answers_ok, faulty_ok}
+use Rattle.pgq.proofs.Statements.SoundGraphs.{sound_then}
+use Rattle.pgq.proofs.Statements.Outcomes.{in_session_is}
+use Rattle.pgq.proofs.Statements.Definitions.{ready_ok, answers_ok, faulty_ok}
 use Rattle.pgq.proofs.definition.define.Goals as goal
 
 pub returns-then-section-ne0-clause-answers : goal.returns-then-section-ne0-clause-answers
@@ -17,5 +17,5 @@ returns-in-Ok-clause-answers c = answers_ok c.args.definition.now c.args.engine.
     (record { right = c.in-Ok.ensures.ok; catalog = c.in-Ok.ensures.defined; tables = refl; log = refl; held_all = refl; peak = refl }) (omega (arith, c.if-section-ne0.false)) c.finish_definition.ensures.engine c.finish_definition.ensures.outcome
 
 pub returns-in-Err-clause-answers : goal.returns-in-Err-clause-answers
-returns-in-Err-clause-answers c = faulty_ok c.args.definition.now c.args.engine.now (record c.args.engine.now { catalog = c.define.new.self }) c.args.at c.args.section c.in-Err.fault c.define_refusal.result
-    (ap (λ k. record c.args.engine.now { catalog = k }) c.in-Err.ensures.unchanged) (omega (arith, c.if-section-ne0.false)) c.in-Err.ensures.fault c.define_refusal.ensures.refusal
+returns-in-Err-clause-answers c = faulty_ok c.args.definition.now c.args.engine.now (record c.args.engine.now { catalog = c.define.new.self }) c.args.at c.args.section c.in-Err.fault c.define_refusal.result c.told.result
+    (ap (λ k. record c.args.engine.now { catalog = k }) c.in-Err.ensures.unchanged) (omega (arith, c.if-section-ne0.false)) c.in-Err.ensures.fault c.define_refusal.ensures c.told.ensures.told

@@ -1,8 +1,8 @@
 use Rattle.std.proofs.Common.{subst}
 use Rattle.pg_write.specs.PlainInsert.{rows_of}
 use Rattle.pgq.specs.Insertions.{HasNoRows}
-use Rattle.pgq.specs.InsertedRows.{rows_are_of}
-use Rattle.pgq.proofs.Inserting.{ended_ok, refused_ok}
+use Rattle.pgq.proofs.Statements.InsertRows.{rows_are_of}
+use Rattle.pgq.proofs.Statements.Inserts.{ended_ok, refused_ok}
 use Rattle.pgq.proofs.insertion.insert_into.Goals as goal
 
 pub commit-requires-clause-rows : goal.commit-requires-clause-rows

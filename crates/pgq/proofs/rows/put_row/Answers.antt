@@ -3,7 +3,7 @@ use Rattle.std.specs.Prelude.{Ok, Err, OnOk}
 use Rattle.pg_keyed.specs.Keyed.{Sought}
 use Rattle.pg_value.specs.Order.{key_cmp}
 use Rattle.pg_value.specs.TablesLaws.{key_of, put_in}
-use Rattle.pgq.proofs.RowPuts.{replaced, added}
+use Rattle.pgq.proofs.Commits.RowPuts.{replaced, added}
 use Rattle.pgq.proofs.rows.put_row.Goals.{in-Ok-insert, in-Err-insert}
 use Rattle.pgq.proofs.rows.put_row.Goals as goal
 

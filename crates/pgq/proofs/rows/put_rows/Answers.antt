@@ -7,7 +7,7 @@ use Rattle.pg_value.specs.Orders.{keys}
 use Rattle.pg_value.specs.Log.{row_given}
 use Rattle.pg_value.specs.TablesLaws.{key_of, key_named, put_in}
 use Rattle.pgq.specs.Commits.{HasRow}
-use Rattle.pgq.proofs.RowPuts.{rises, one_by_one, next_of}
+use Rattle.pgq.proofs.Commits.RowPuts.{rises, one_by_one, next_of}
 use Rattle.pgq.proofs.rows.put_rows.Goals as goal
 
 pub loop-write-preserved : goal.loop-write-preserved

@@ -1,8 +1,8 @@
 use Rattle.std.proofs.Common.{ap, sym, subst, length}
 use Rattle.pg_script.specs.declared.script.Item.TheVariants.{Sql}
 use Rattle.pgq.specs.Sections.{HasAnswered, IsStatementIn}
-use Rattle.pgq.specs.SectionLaws.{none_answered}
-use Rattle.pgq.proofs.Running.{each_at, item_more, counted_more}
+use Rattle.pgq.proofs.Runs.Turns.{none_answered}
+use Rattle.pgq.proofs.Runs.Sections.{each_at, item_more, counted_more}
 use Rattle.pgq.proofs.run.answer_items.Goals as goal
 
 pub items-init : goal.items-init

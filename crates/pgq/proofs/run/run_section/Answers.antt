@@ -1,6 +1,6 @@
 use Rattle.std.proofs.Common.{ap, subst, ◌∙◌, length}
 use Rattle.pgq.specs.Sections.{HasAnswered}
-use Rattle.pgq.proofs.Running.{section_is}
+use Rattle.pgq.proofs.Runs.Sections.{section_is}
 use Rattle.pgq.proofs.run.run_section.Goals as goal
 
 pub returns-clause-run : goal.returns-clause-run

@@ -1,4 +1,4 @@
-use Rattle.pgq.proofs.Running.{section_more, counted_more}
+use Rattle.pgq.proofs.Runs.Sections.{section_more, counted_more}
 use Rattle.pgq.proofs.run.run_sections.Goals as goal
 
 pub sections-preserved : goal.sections-preserved

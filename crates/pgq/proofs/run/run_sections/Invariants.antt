@@ -1,6 +1,6 @@
 use Rattle.std.proofs.Common.{◌≡◌, length, take}
 use Rattle.pgq.specs.Engine.{IsReady}
-use Rattle.pgq.specs.Sectioned.{HaveRun}
+use Rattle.pgq.specs.Sections.{HaveRun}
 use Rattle.pgq.proofs.run.run_sections.Given as goal
 
 abbrev pub invariant-sections : goal.invariant-sections

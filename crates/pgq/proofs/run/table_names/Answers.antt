@@ -1,5 +1,5 @@
 use Rattle.std.proofs.Common.{◌<◌, subst}
-use Rattle.pgq.proofs.Running.{name_more}
+use Rattle.pgq.proofs.Runs.Sections.{name_more}
 use Rattle.pgq.proofs.run.table_names.Goals as goal
 
 pub tables-preserved : goal.tables-preserved

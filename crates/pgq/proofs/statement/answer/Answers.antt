@@ -1,9 +1,5 @@
-use Rattle.std.proofs.Common.{ap, sym}
-use Rattle.pg_script.specs.declared.script.Item.TheVariants.{Sql}
-use Rattle.pg_script.specs.declared.outcome.FaultKind.TheVariants.{Syntax}
-use Rattle.pgq.specs.Language.{reading_of}
-use Rattle.pgq.proofs.Outcomes.{unread_is}
+use Rattle.pgq.proofs.Statements.Outcomes.{part_ok}
 use Rattle.pgq.proofs.statement.answer.Goals as goal
 
-pub returns-in-Fault-clause-answers : goal.returns-in-Fault-clause-answers
-returns-in-Fault-clause-answers c = unread_is c.args.text.now c.args.section c.args.engine.now (Sql c.args.from c.args.to) Syntax c.in-Fault.at (c.in_ok-at.field-0, c.in_ok-at.ensures, sym (ap reading_of c.in-Fault.is))
+pub returns-clause-answers : goal.returns-clause-answers
+returns-clause-answers c = part_ok c.args.text.now c.args.section c.args.from c.args.to c.args.engine.now c.answer_parsed.new.engine c.in_ok-parsed.parsed c.answer_parsed.result c.in_ok-parsed.ensures c.answer_parsed.ensures.answers

@@ -1,6 +1,6 @@
 use Rattle.std.proofs.Common.{ap}
-use Rattle.pgq.specs.Language.{says}
-use Rattle.pgq.proofs.Outcomes.{not_run}
+use Rattle.pg_language.specs.Language.{says}
+use Rattle.pgq.proofs.Statements.Outcomes.{not_run}
 use Rattle.pgq.proofs.statement.carry_out.Goals as goal
 
 pub returns-in-Update-clause-answers : goal.returns-in-Update-clause-answers

@@ -1,8 +1,8 @@
 use Rattle.std.proofs.Common.{cond, ap, sym, ◌∙◌}
 use Rattle.pg_script.specs.declared.outcome.FaultKind.TheVariants.{NotYet}
 use Rattle.pg_script.specs.Judged.{Unread, Asks}
-use Rattle.pgq.specs.Language.{says_query}
-use Rattle.pgq.proofs.Outcomes.{not_run}
+use Rattle.pg_language.specs.Language.{says_query}
+use Rattle.pgq.proofs.Statements.Outcomes.{not_run}
 use Rattle.pgq.proofs.statement.run_query.Goals as goal
 
 pub returns-else-is_one_hop : goal.returns-else-is_one_hop

@@ -1,5 +1,0 @@
-use Rattle.pg_ast.specs.OneHop.{one_hop_bindings}
-use Rattle.pg_ast.proofs.laws.one_hop_bindings.Goals as goal
-
-pub returns : goal.returns
-returns c = one_hop_bindings

@@ -1,8 +1,0 @@
-use Rattle.std.proofs.Common.{◌≡◌, drop}
-use Rattle.std.specs.List.{flat_map}
-use Rattle.pg_ast.specs.FaultPlaces.{least, sooner, place_if}
-use Rattle.pg_ast.specs.GraphJudgement.{two_columns, rows}
-use Rattle.pg_catalog.proofs.agree.any_two_columns.Given as goal
-
-abbrev pub invariant-loop-e : goal.invariant-loop-e
-invariant-loop-e l = sooner l.found (least (flat_map (λ e. place_if (two_columns (rows e.element)) e.at) (drop l.e-index l.elements))) ≡ least (flat_map (λ e. place_if (two_columns (rows e.element)) e.at) l.elements)

@@ -1,8 +1,0 @@
-use Rattle.std.proofs.Common.{◌≡◌, drop}
-use Rattle.std.specs.List.{flat_map}
-use Rattle.pg_ast.specs.FaultPlaces.{least, sooner}
-use Rattle.pg_ast.specs.GraphJudgement.{at_if, differ}
-use Rattle.pg_catalog.proofs.agree.differ_later.Given as goal
-
-abbrev pub invariant-loop-f : goal.invariant-loop-f
-invariant-loop-f l = sooner l.found (least (flat_map (at_if differ l.e) (drop l.f-index l.later))) ≡ least (flat_map (at_if differ l.e) l.later)

@@ -1,6 +1,0 @@
-use Rattle.std.proofs.Common.{◌≡◌, take, map}
-use Rattle.pg_ast.specs.TableJudgement.{place_of}
-use Rattle.pg_catalog.proofs.build.places_of.Given as goal
-
-abbrev pub invariant-loop-name : goal.invariant-loop-name
-invariant-loop-name l = l.out ≡ map (place_of l.columns) (take l.name-index l.key)

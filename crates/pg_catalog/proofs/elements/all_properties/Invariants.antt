@@ -1,9 +1,0 @@
-use Rattle.std.proofs.Common.{◌≡◌, ◌++◌, drop}
-use Rattle.pg_ast.specs.GraphEntries.{all_from}
-use Rattle.pg_catalog.proofs.elements.all_properties.Given as goal
-
-abbrev pub invariant-loop-column : goal.invariant-loop-column
-invariant-loop-column l = record {
-  counted : l.place ≡ l.column-index;
-  left : l.out ++ all_from l.place (drop l.column-index l.columns) ≡ all_from 0 l.columns;
-}

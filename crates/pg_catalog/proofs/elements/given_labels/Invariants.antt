@@ -1,6 +1,0 @@
-use Rattle.std.proofs.Common.{◌≡◌, take, map}
-use Rattle.pg_ast.specs.GraphEntries.{label_of}
-use Rattle.pg_catalog.proofs.elements.given_labels.Given as goal
-
-abbrev pub invariant-loop-label : goal.invariant-loop-label
-invariant-loop-label l = l.out ≡ map (label_of l.columns) (take l.label-index l.labels)

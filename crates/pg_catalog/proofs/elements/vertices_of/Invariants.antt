@@ -1,6 +1,0 @@
-use Rattle.std.proofs.Common.{◌≡◌, take, map}
-use Rattle.pg_ast.specs.GraphEntries.{vertex_of}
-use Rattle.pg_catalog.proofs.elements.vertices_of.Given as goal
-
-abbrev pub invariant-loop-vertex : goal.invariant-loop-vertex
-invariant-loop-vertex l = l.out ≡ map (vertex_of l.tables.entries) (take l.vertex-index l.vertices)

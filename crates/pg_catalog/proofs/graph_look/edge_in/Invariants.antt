@@ -1,7 +1,0 @@
-use Rattle.std.proofs.Common.{◌≡◌, drop, map}
-use Rattle.std.specs.List.{find}
-use Rattle.pg_ast.specs.GraphLookUps.{is_table}
-use Rattle.pg_catalog.proofs.graph_look.edge_in.Given as goal
-
-abbrev pub invariant-loop-edge : goal.invariant-loop-edge
-invariant-loop-edge l = find (is_table l.table) (map (λ e. e.element) l.edges) ≡ find (is_table l.table) (map (λ e. e.element) (drop l.edge-index l.edges))

@@ -1,6 +1,0 @@
-use Rattle.std.proofs.Common.{◌≡◌, drop}
-use Rattle.pg_catalog.specs.LookUpPasses.{column_in}
-use Rattle.pg_catalog.proofs.graph_look.in_label.Given as goal
-
-abbrev pub invariant-loop-property : goal.invariant-loop-property
-invariant-loop-property l = column_in l.properties l.name ≡ column_in (drop l.property-index l.properties) l.name

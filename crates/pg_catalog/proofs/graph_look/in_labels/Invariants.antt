@@ -1,7 +1,0 @@
-use Rattle.std.proofs.Common.{◌≡◌, drop}
-use Rattle.std.specs.List.{flat_map}
-use Rattle.pg_ast.specs.GraphJudgement.{first_column, rows_of}
-use Rattle.pg_catalog.proofs.graph_look.in_labels.Given as goal
-
-abbrev pub invariant-loop-label : goal.invariant-loop-label
-invariant-loop-label l = first_column (flat_map rows_of l.labels) l.name ≡ first_column (flat_map rows_of (drop l.label-index l.labels)) l.name

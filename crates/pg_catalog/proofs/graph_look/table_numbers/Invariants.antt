@@ -1,5 +1,0 @@
-use Rattle.std.proofs.Common.{◌≡◌, take, map}
-use Rattle.pg_catalog.proofs.graph_look.table_numbers.Given as goal
-
-abbrev pub invariant-loop-element : goal.invariant-loop-element
-invariant-loop-element l = l.out ≡ map (λ e. e.table) (take l.element-index l.elements)

@@ -1,8 +1,0 @@
-use Rattle.std.proofs.Common.{◌≡◌, ℕ, drop}
-use Rattle.pg_ast.specs.GraphLookUps.{admitted, bit, has_number}
-use Rattle.pg_ast.specs.Labels.{label_tree}
-use Rattle.pg_catalog.proofs.Bits.{with_rest}
-use Rattle.pg_catalog.proofs.graph_look.vertex_tables.Given as goal
-
-abbrev pub invariant-loop-vertex : goal.invariant-loop-vertex
-invariant-loop-vertex l = (t : ℕ) → with_rest l.set (admitted (drop l.vertex-index l.vertices) (label_tree l.label)) t ≡ bit (has_number t (admitted l.vertices (label_tree l.label)))

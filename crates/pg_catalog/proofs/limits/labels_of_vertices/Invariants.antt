@@ -1,8 +1,0 @@
-use Rattle.std.proofs.Common.{◌≡◌, drop}
-use Rattle.std.specs.List.{flat_map}
-use Rattle.pg_ast.specs.FaultPlaces.{least, sooner}
-use Rattle.pg_ast.specs.GraphJudgement.{ninth_label}
-use Rattle.pg_catalog.proofs.limits.labels_of_vertices.Given as goal
-
-abbrev pub invariant-loop-vertex : goal.invariant-loop-vertex
-invariant-loop-vertex l = sooner l.found (least (flat_map (λ v. ninth_label v.labels) (drop l.vertex-index l.vertices))) ≡ least (flat_map (λ v. ninth_label v.labels) l.vertices)

@@ -1,8 +1,0 @@
-use Rattle.std.proofs.Common.{◌≡◌, drop}
-use Rattle.std.specs.List.{flat_map}
-use Rattle.pg_ast.specs.FaultPlaces.{least, sooner}
-use Rattle.pg_ast.specs.GraphJudgement.{missing_element}
-use Rattle.pg_catalog.proofs.missing.missing_vertices.Given as goal
-
-abbrev pub invariant-loop-vertex : goal.invariant-loop-vertex
-invariant-loop-vertex l = sooner l.found (least (flat_map (λ v. missing_element l.tables.entries v.table v.key v.labels) (drop l.vertex-index l.vertices))) ≡ least (flat_map (λ v. missing_element l.tables.entries v.table v.key v.labels) l.vertices)

@@ -1,8 +1,0 @@
-use Rattle.std.proofs.Common.{◌≡◌, drop}
-use Rattle.std.specs.List.{flat_map}
-use Rattle.pg_ast.specs.FaultPlaces.{least, sooner}
-use Rattle.pg_ast.specs.TableJudgement.{too_long_column}
-use Rattle.pg_catalog.proofs.places.too_long_columns.Given as goal
-
-abbrev pub invariant-loop-column : goal.invariant-loop-column
-invariant-loop-column l = sooner l.found (least (flat_map too_long_column (drop l.column-index l.columns))) ≡ least (flat_map too_long_column l.columns)

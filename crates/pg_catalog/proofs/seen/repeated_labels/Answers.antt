@@ -1,9 +1,0 @@
-use Rattle.std.proofs.Common.{arith}
-use Rattle.std.proofs.lemmas.Grind.{common_steps}
-use Rattle.pg_ast.specs.FaultPlaces.{sooner_none}
-use Rattle.pg_catalog.proofs.NameSets.{seen_all}
-use Rattle.pg_ast.specs.GraphJudgement.{label_names}
-use Rattle.pg_catalog.proofs.seen.repeated_labels.Goals as goal
-
-pub returns : goal.returns
-returns c = let e = seen_all (label_names c.args.labels.now) in let n = sooner_none c.loop-label.found in grind (arith, common_steps)

@@ -1,8 +1,0 @@
-use Rattle.std.proofs.Common.{◌≡◌, drop}
-use Rattle.std.specs.List.{flat_map}
-use Rattle.pg_ast.specs.FaultPlaces.{least, sooner}
-use Rattle.pg_ast.specs.GraphJudgement.{twice_labelled}
-use Rattle.pg_catalog.proofs.taken.twice_in_edges.Given as goal
-
-abbrev pub invariant-loop-edge : goal.invariant-loop-edge
-invariant-loop-edge l = sooner l.found (least (flat_map (λ e. twice_labelled e.labels) (drop l.edge-index l.edges))) ≡ least (flat_map (λ e. twice_labelled e.labels) l.edges)

@@ -1,8 +1,0 @@
-use Rattle.std.proofs.Common.{◌≡◌, drop}
-use Rattle.std.specs.List.{flat_map}
-use Rattle.pg_ast.specs.FaultPlaces.{least, sooner}
-use Rattle.pg_ast.specs.GraphJudgement.{twice_listed}
-use Rattle.pg_catalog.proofs.taken.twice_in_labels.Given as goal
-
-abbrev pub invariant-loop-label : goal.invariant-loop-label
-invariant-loop-label l = sooner l.found (least (flat_map (λ d. twice_listed d.props) (drop l.label-index l.labels))) ≡ least (flat_map (λ d. twice_listed d.props) l.labels)

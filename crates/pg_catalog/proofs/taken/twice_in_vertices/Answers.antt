@@ -1,7 +1,0 @@
-use Rattle.pg_ast.specs.GraphJudgement.{twice_labelled}
-use Rattle.pg_ast.specs.declared.define.VertexDef.{VertexDef}
-use Rattle.pg_catalog.proofs.Loops.{next_place}
-use Rattle.pg_catalog.proofs.taken.twice_in_vertices.Goals as goal
-
-pub loop-vertex-preserved : goal.loop-vertex-preserved
-loop-vertex-preserved c = next_place (λ (v : VertexDef). twice_labelled v.labels) c.loop-vertex.found c.in-Ok.again c.sooner-found.result c.args.vertices.now c.loop-vertex.vertex-index c.vertex-item.result c.loop-vertex-test.true c.vertex-item.is (c.in-Ok.ensures) c.sooner-found.ensures c.loop-vertex.invariant

@@ -1,0 +1,19 @@
+-- Checked trees, and what they mean.
+pub mod Answers
+pub mod Bindings
+pub mod CExprs
+pub mod Cuts
+pub mod EdgeKeys
+pub mod Fits
+pub mod HopQuery
+pub mod LabelSets
+pub mod Meaning
+pub mod Members
+pub mod Mentions
+pub mod OneHop
+pub mod Outlines
+pub mod Reads
+pub mod Rounds
+pub mod Sound
+pub mod Typing
+pub mod Walks

@@ -1,0 +1,15 @@
+//! Checked trees, and what they mean: the values of expressions, label sets, the walks of a graph that fit a pattern, their
+//! bindings, selections among these, and the answer of a query. Here too are the kinds and widths of expressions.
+#![tactic(auto)]
+
+mod checked;
+mod laws;
+
+pub use checked::{
+    Bound, CExpr, CFiller, CPart, CheckedChange, CheckedColumn, CheckedPath, CheckedQuery,
+    CheckedSet, PathBinding, Slot,
+};
+pub use laws::{
+    binding_by_path, hops_are_neighbours, narrow_values, one_hop_answers, one_hop_bindings,
+    selections_by_start, value_by_variables, values_within_widths,
+};

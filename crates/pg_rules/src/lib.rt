@@ -1,0 +1,20 @@
+//! What a catalog holds, and the rules: which definitions, changes and queries are refused and where, the checked tree of
+//! each that is not, and the effect of a change.
+#![tactic(auto)]
+
+mod entry;
+mod fault;
+mod laws;
+mod places;
+mod sound;
+
+pub use entry::{
+    ColumnEntry, EdgeEntry, ElementEntry, GraphEntry, LabelEntry, PlacedElement, PropertyEntry,
+    TableEntry,
+};
+pub use fault::{CheckFault, DefineFault, QueryFault, ResolveFault, RowFault};
+pub use laws::{
+    accepted_queries, checked_queries, inserts_as_changes, resolved_expressions, sound_shapes,
+};
+pub use places::{place_if, sooner};
+pub use sound::sound_definitions;

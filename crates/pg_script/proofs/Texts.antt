@@ -1,0 +1,5 @@
+-- Fronts, cuts and joins of texts.
+pub mod Front
+pub mod Cuts
+pub mod Blanks
+pub mod Joined

@@ -1,0 +1,4 @@
+-- The statements and the order of every script.
+pub mod Boundaries
+pub mod Orders
+pub mod Statements

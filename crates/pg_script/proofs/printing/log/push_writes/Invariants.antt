@@ -1,7 +1,0 @@
-use Rattle.std.proofs.Common.{◌≡◌, ◌++◌, take}
-use Rattle.std.specs.List.{flat_map}
-use Rattle.pg_script.specs.Text.{write_line}
-use Rattle.pg_script.proofs.printing.log.push_writes.Given as goal
-
-abbrev pub invariant-loop-write : goal.invariant-loop-write
-invariant-loop-write l = l.out ≡ l.fn.out ++ flat_map (write_line l.tables) (take l.write-index l.writes)

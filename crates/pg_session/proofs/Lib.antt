@@ -1,0 +1,10 @@
+pub mod Acts
+pub mod BetweenTurns
+pub mod Grows
+pub mod KeepsLegal
+pub mod LogLaws
+pub mod LongerLogs
+pub mod Numbers
+pub mod OneItem
+pub mod SteppedLegal
+pub mod Within

@@ -1,0 +1,4 @@
+pub mod Core
+pub mod Stepped
+pub mod TurnsJoin
+pub mod Legality

@@ -1,0 +1,14 @@
+//! Tests of what no run of the program shows, over the crates below it: values that no statement gives yet, the lines of
+//! outcomes that none has, scripts of several sessions, and sources and sinks that fail in mid-stream.
+#![tactic(auto)]
+
+#[cfg(test)]
+mod inserts;
+#[cfg(test)]
+mod outside;
+#[cfg(test)]
+mod scripts;
+#[cfg(test)]
+mod transcripts;
+#[cfg(test)]
+mod values;

@@ -1,0 +1,3 @@
+pub mod LongerLog
+pub mod RowPuts
+pub mod StillReady
