@@ -1,8 +1,16 @@
-"""Queries of one edge: where they are refused, and their answers."""
+"""Queries: where they are refused, and the answers of those of one edge."""
 from model import Element, Script, edge
 from refusals import BOTH, refused
 from running import said
-from tables import PQ, hop, ints, social
+from tables import PQ, base, hop, ints, social
+
+
+def label_scripts():
+    """Labels that admit every table of the graph ask for nothing more."""
+    for pattern in ("(x IS t)-[e]->(y)", "(x:t)-[e:e]->(y:%)", "(x IS %)-[e]->(y IS !e)", "(x)-[e IS e | !e & (t)]->(y)"):
+        script, t, p, w, e, g = base()
+        script.begin("a").query(g, [("X", "ID", None), ("E", "K", "K")], text=f"SELECT * FROM GRAPH_TABLE (g MATCH {pattern} COLUMNS (x.id, e.k AS k))")
+        yield f"labels of every table: {pattern}", script
 
 
 def kind_scripts():
@@ -149,7 +157,8 @@ def session_scripts():
 
 
 def rows():
-    yield from refused("queries.txt", lambda kind: BOTH)
-    for group in (kind_scripts, graph_scripts, home_scripts, staff_scripts, session_scripts):
+    for file in ("queries.txt", "query_faults.txt"):
+        yield from refused(file, lambda kind: BOTH)
+    for group in (label_scripts, kind_scripts, graph_scripts, home_scripts, staff_scripts, session_scripts):
         for name, script in group():
             yield said(name, script)

@@ -18,7 +18,7 @@ use Rattle.pg_catalog.specs.PropertyNames.{AreNamesOf, listed, under_label, of_e
 use Rattle.pg_catalog.proofs.NameSets.{member_all}
 use Rattle.pg_catalog.proofs.Loops.{drop_at}
 
-added_more : (seen xs ys : List (List ℕ)) → add_all (add_all seen xs) ys ≡ add_all seen (xs ++ ys)
+pub added_more : (seen xs ys : List (List ℕ)) → add_all (add_all seen xs) ys ≡ add_all seen (xs ++ ys)
 added_more seen [] ys = refl
 added_more seen (x ∷ xs) ys = added_more (add seen x) xs ys
 

@@ -5,3 +5,4 @@ pub mod Growth
 pub mod Bits
 pub mod EdgeNumbers
 pub mod GraphNames
+pub mod KindNames

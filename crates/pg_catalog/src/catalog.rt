@@ -4,6 +4,7 @@ ghost use Rattle.std.specs.Map.{keys_of};
 ghost use Rattle.std.specs.Option.{option_copied, option_map};
 ghost use Rattle.std.specs.Str.{bytes_eq};
 ghost use Rattle.pg_rules.specs.Definitions.Tables as define;
+ghost use Rattle.pg_rules.specs.Catalog.{IsFew};
 ghost use Rattle.pg_rules.specs.Catalog.Shapes as shape;
 ghost use Rattle.pg_rules.specs.Catalog.LookUps as spec;
 ghost use Rattle.pg_rules.specs.Catalog.SoundDefinitions.{IsCatalog};
@@ -14,10 +15,13 @@ ghost use Rattle.pg_rules.specs.Definitions.Graphs as graph_judge;
 ghost use Rattle.pg_rules.specs.Definitions as judge;
 ghost use Rattle.pg_meaning.specs.Sound.Graphs as sound;
 ghost use Rattle.pg_catalog.specs.PropertyNames as property;
+ghost use Rattle.pg_catalog.specs.PropertyKinds as collected;
 
 use crate::graph::entry::{elements_of, graph_of};
 use crate::graph::keys::graph_key_mismatch;
+use crate::graph::kinds_by_name::{PropertyKinds, property_kinds};
 use crate::graph::label_agreement::label_mismatch;
+use crate::graph::label_names::label_names;
 use crate::graph::limits::graph_limit;
 use crate::graph::look_up::{graph_shape, property_in, tables_of};
 use crate::graph::property_kinds::type_mismatch;
@@ -28,9 +32,10 @@ use crate::name_set::NameSet;
 use crate::shapes::{edge_shapes, table_shapes};
 use crate::table::entry::{column_place, entry_of};
 use crate::table::faults::{key_mismatch, limit, name_taken, no_column};
+use crate::table::look_up::{columns_named, key_named};
 use indexmap::IndexMap;
 use pg_ast::{Define, GraphDef, LabelExpr, TableDef};
-use pg_rules::{DefineFault, GraphEntry, TableEntry, sound_definitions, sound_shapes};
+use pg_rules::{ColumnEntry, DefineFault, GraphEntry, TableEntry, sound_definitions, sound_shapes};
 use pg_value::{GraphNo, GraphShape, Shapes, TableNo, TableSet, Text};
 use std::alloc::{AllocError, Global};
 use std::marker::Model;
@@ -124,6 +129,21 @@ impl Catalog {
         }
     }
 
+    /// The columns of a table, at most 32; none where no table has the name.
+    pub fn columns_of(&self, name: &Text) -> &[ColumnEntry]
+        ensures columns { result.now ≡ spec.columns_named self.now.0 name.now }
+        ensures few { IsFew result.now }
+    {
+        columns_named(&self.tables, name)
+    }
+
+    /// The places of the columns of a table's primary key; none where no table has the name.
+    pub fn key_of(&self, name: &Text) -> &[u32]
+        ensures { result.now ≡ spec.key_named self.now.0 name.now }
+    {
+        key_named(&self.tables, name)
+    }
+
     /// The shapes of all tables, by their numbers, and of the edge tables of all graphs, in order of definition: columns and
     /// tables that they name stand, keys are NOT NULL, and ends have the kinds of keys. Only want of memory refuses it.
     pub fn shapes(&self, alloc: Global) -> Result<Shapes, AllocError>
@@ -161,6 +181,32 @@ impl Catalog {
     {
         match self.graphs.get_index(graph.0 as usize) {
             Some((_, entry)) => property_names(alloc, entry),
+            None => Ok(NameSet::new(alloc)),
+        }
+    }
+
+    /// The kinds of all properties of a graph by their names, collected in one pass over its element tables; none where there
+    /// is no such graph. Only want of memory refuses it.
+    pub fn property_kinds(
+        &self,
+        alloc: Global,
+        graph: GraphNo,
+    ) -> Result<PropertyKinds<'_>, AllocError>
+        ensures { IfOk result (collected.AreKindsOf (look.graph_numbered self.now.1 graph)) }
+    {
+        match self.graphs.get_index(graph.0 as usize) {
+            Some((_, entry)) => property_kinds(alloc, entry),
+            None => Ok(PropertyKinds::new(alloc)),
+        }
+    }
+
+    /// The names of all labels of a graph, collected in one pass over its element tables; none where there is no such graph.
+    /// Only want of memory refuses it.
+    pub fn label_names(&self, alloc: Global, graph: GraphNo) -> Result<NameSet<'_>, AllocError>
+        ensures { IfOk result (collected.AreLabelsOf (look.graph_numbered self.now.1 graph)) }
+    {
+        match self.graphs.get_index(graph.0 as usize) {
+            Some((_, entry)) => label_names(alloc, entry),
             None => Ok(NameSet::new(alloc)),
         }
     }

@@ -8,4 +8,7 @@ mod shapes;
 mod table;
 
 pub use catalog::Catalog;
-pub use name_set::NameSet;
+pub use graph::keys::kind_at;
+pub use graph::kinds_by_name::PropertyKinds;
+pub use name_set::{NameSet, Named, repeated_name};
+pub use table::entry::column_place;

@@ -1,4 +1,4 @@
-//! Names in definitions: sets of them, and those that stand twice, in one pass.
+//! Names in statements: sets of them, and those that stand twice, in one pass.
 ghost use Rattle.std.specs.Prelude.{◌≡◌, ◌++◌, [], IfOk, OnOk, map};
 ghost use Rattle.std.specs.List.{flat_map};
 ghost use Rattle.pg_rules.specs.Places.{least, sooner};
@@ -7,14 +7,14 @@ ghost use Rattle.pg_rules.specs.Definitions.Tables.{member, repeats};
 ghost use Rattle.pg_catalog.specs.NameSets as spec;
 
 use indexmap::IndexSet;
-use pg_ast::{ColumnDef, EdgeDef, LabelDef, Name, PropDef, VertexDef};
+use pg_ast::{ColumnDef, EdgeDef, LabelDef, Name, PropDef, SetItem, VertexDef};
 use pg_rules::{place_if, sooner};
 use pg_value::{List, Text};
 use std::alloc::{AllocError, Global};
 use std::marker::Model;
 
-/// A part of a definition that has a name.
-pub(crate) trait Named {
+/// A part of a statement that has a name.
+pub trait Named {
     ghost use Rattle.pg_ast.specs.declared.expr.Name.{Name};
 
     ghost named: { Self → Name };
@@ -72,6 +72,14 @@ impl Named for EdgeDef {
     }
 }
 
+impl Named for SetItem {
+    ghost named = { λ s. s.column };
+
+    fn name(&self) -> &Name {
+        &self.column
+    }
+}
+
 /// Names, each once.
 #[derive(Drop)]
 pub struct NameSet<'a> {
@@ -88,7 +96,7 @@ impl<'a> Model for NameSet<'a> {
 
 impl<'a> NameSet<'a> {
     /// No names. It takes no memory.
-    pub(crate) fn new(alloc: Global) -> NameSet<'a>
+    pub fn new(alloc: Global) -> NameSet<'a>
         ensures { result ≡ [] }
     {
         NameSet {
@@ -111,7 +119,7 @@ impl<'a> NameSet<'a> {
     }
 
     /// Whether a text was among the names; it is from now on.
-    pub(crate) fn add(&mut self, text: &'a str) -> Result<bool, AllocError>
+    pub fn add(&mut self, text: &'a str) -> Result<bool, AllocError>
         ensures again { IfOk result (λ again. again ≡ member text.now self.old) }
         ensures added { OnOk result (self.new ≡ spec.add self.old text.now) }
     {
@@ -168,7 +176,7 @@ pub fn names_of<T: Named>(alloc: Global, items: &[T]) -> Result<NameSet<'_>, All
     }
 }
 
-/// The first name that stands among those before it.
+/// The first name that stands among those before it, found in one pass. Only want of memory refuses it.
 pub fn repeated_name<T: Named>(alloc: Global, items: &[T]) -> Result<Option<u32>, AllocError>
     ensures { IfOk result (λ place. place ≡ least (repeats (map T.named items.now))) }
 {

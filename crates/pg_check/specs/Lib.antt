@@ -1,3 +1,8 @@
-pub mod OneHopCheck
-pub mod HopForm
-pub mod CheckLaws
+pub mod Passes
+pub mod Scopes
+pub mod Gathered
+pub mod UsePlaces
+pub mod Clashes
+pub mod Judgement
+pub mod Resolved
+pub mod ColumnPlaces

@@ -1,15 +1,32 @@
-//! Checks the query of one edge, `(x)-[e]->(y)` with columns that are plain properties (ISO/IEC 9075-16:2023, GRAPH_TABLE):
-//! whether a query is one, where it is refused, and what it asks of the tables.
+//! Checks queries (ISO/IEC 9075-16:2023, GRAPH_TABLE): why one is refused before it reads the tables, or its checked tree.
 #![tactic(auto)]
 
-mod check;
+mod clashes;
+mod column_places;
 mod columns;
-mod faults;
-mod form;
-mod hop;
-mod laws;
+mod conditions;
+mod gather;
+mod gathered;
+mod groups;
+mod items;
+mod judge;
+mod labels;
+mod limits;
+mod mentions;
+mod name_kinds;
+mod places;
+mod properties;
+mod quantifiers;
+mod query;
+mod resolve;
+mod types;
+mod uses;
+mod variables;
+mod verdict;
+mod widths;
 
-pub use check::check_one_hop;
-pub use form::is_one_hop;
-pub use hop::{HopColumn, HopQuery};
-pub use laws::{admitted_tables, checked_query};
+pub use name_kinds::{ColumnKinds, NameKinds, NoNames};
+pub use query::check;
+pub use resolve::admitted;
+pub use types::wrong_whole;
+pub use widths::wide_whole;

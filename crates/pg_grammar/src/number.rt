@@ -49,7 +49,7 @@ pub fn number_literal(digits: &[u8], at: u32) -> Expr
 {
     match number_of(digits) {
         Some(number) => Expr::Lit {
-            value: Value::Int(number as i128),
+            value: Value::int(number as i128),
             bits: binary_digits(number),
             at,
         },

@@ -26,9 +26,9 @@ use Rattle.pg_meaning.specs.declared.checked.CheckedColumn.{CheckedColumn}
 use Rattle.pg_meaning.specs.CExprs.{CTree, ctree_of}
 use Rattle.pg_meaning.specs.Meaning.{OfVars, value_of, property_first}
 use Rattle.pg_meaning.specs.OneHop.{one_hop_query, one_hop_row, one_hop_vars, answer_of, answer_reordered}
-use Rattle.pg_check.specs.declared.hop.HopColumn.{HopColumn}
-use Rattle.pg_check.specs.declared.hop.HopQuery.{HopQuery}
-use Rattle.pg_check.specs.OneHopCheck.{Shows}
+use Rattle.pg_hop.specs.declared.query.HopColumn.{HopColumn}
+use Rattle.pg_hop.specs.declared.query.HopQuery.{HopQuery}
+use Rattle.pg_hop.specs.HopColumns.{Shows}
 use Rattle.pg_hop.specs.HopAnswer.{Hold, Suits, IsHopAnswer}
 use Rattle.pg_hop.specs.EdgeRows.{has_key, end_row, rows_in, is_vertex_table, ends_in, stored_for, own_value, column_value, hop_row, row_between, edge_row, table_rows, numbered_rows, edge_rows}
 
@@ -72,7 +72,7 @@ either_some true false (Some x) = refl
 either_some false c r = refl
 
 -- an element is a vertex, exactly where it is of a vertex table and its row is there
-any_vertex : (tables : Tables) (e : ElemId) (ts : List TableNo)
+pub any_vertex : (tables : Tables) (e : ElemId) (ts : List TableNo)
     → list_any (same_elem e) (flat_map (λ t. map elem_of (held_in t tables)) ts) ≡ is_some (cond (is_vertex_table ts e.table) (stored_at (elem_place e) tables) None)
 any_vertex tables e [] = refl
 any_vertex tables e (t ∷ ts) =
@@ -113,7 +113,7 @@ end_same g lists tables t columns row h =
 
 -- ROWS
 
-first_value : (tables : Tables) (e : Edge) (tree : CTree) (x : ℕ) (columns : List (Option ℕ)) → tree ≡ ctree_of (Property x columns) → value_of tree (OfVars tables (one_hop_vars e)) ≡ property_first tables (one_hop_vars e x) columns
+pub first_value : (tables : Tables) (e : Edge) (tree : CTree) (x : ℕ) (columns : List (Option ℕ)) → tree ≡ ctree_of (Property x columns) → value_of tree (OfVars tables (one_hop_vars e)) ≡ property_first tables (one_hop_vars e x) columns
 first_value tables e tree x columns h = ap (λ z. value_of z (OfVars tables (one_hop_vars e))) h
 
 module _ (tables : Tables) (a s b : Stored) (x y : ElemId) (source : stored_at (elem_place x) tables ≡ Some a) (edge : stored_at (place_of s) tables ≡ Some s) (dest : stored_at (elem_place y) tables ≡ Some b) where

@@ -1,1 +1,3 @@
 pub mod HopLaws
+pub mod Parted
+pub mod ReadLaws

@@ -15,8 +15,8 @@ use Rattle.pg_value.specs.Compare.{is_null}
 use Rattle.pg_value.specs.Tables.{Stored, pick}
 use Rattle.pg_value.specs.TablesLaws.{stored_in}
 use Rattle.pg_value.specs.Graph.{value_in}
-use Rattle.pg_check.specs.declared.hop.HopColumn.{HopColumn}
-use Rattle.pg_check.specs.declared.hop.HopQuery.{HopQuery}
+use Rattle.pg_hop.specs.declared.query.HopColumn.{HopColumn}
+use Rattle.pg_hop.specs.declared.query.HopQuery.{HopQuery}
 
 -- THE ENDS OF AN EDGE
 

@@ -8,8 +8,8 @@ use Rattle.pg_meaning.specs.declared.checked.CheckedColumn.{CheckedColumn}
 use Rattle.pg_meaning.specs.Bindings.{Distinct}
 use Rattle.pg_meaning.specs.HopQuery.{one_hop_query, AdmitsAll, edge_tables}
 use Rattle.pg_meaning.specs.Answers.{Answer}
-use Rattle.pg_check.specs.declared.hop.HopQuery.{HopQuery}
-use Rattle.pg_check.specs.OneHopCheck.{Shows}
+use Rattle.pg_hop.specs.declared.query.HopQuery.{HopQuery}
+use Rattle.pg_hop.specs.HopColumns.{Shows}
 
 -- tables in order, of which each holds the rows of the list at its number; a table beyond the lists holds none
 pub record Hold (lists : List (List Stored)) (tables : Tables) : Type 0 where

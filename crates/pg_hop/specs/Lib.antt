@@ -1,2 +1,5 @@
 pub mod HopAnswer
 pub mod EdgeRows
+pub mod EdgeReads
+pub mod ReadRows
+pub mod HopColumns

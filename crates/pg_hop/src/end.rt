@@ -106,7 +106,7 @@ pub fn rows_in<'a>(tables: &'a [List<Stored>], table: TableNo) -> &'a [Stored]
 }
 
 /// Whether a table is one of the graph's vertex tables.
-fn is_vertex_table(vertices: &[TableNo], table: TableNo) -> bool
+pub fn is_vertex_table(vertices: &[TableNo], table: TableNo) -> bool
     ensures { result ≡ spec.is_vertex_table vertices.now table }
 {
     for vertex in vertices {

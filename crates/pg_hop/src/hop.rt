@@ -10,8 +10,8 @@ ghost use Rattle.pg_hop.specs.EdgeRows as spec;
 ghost use Rattle.pg_hop.specs.HopAnswer.{AreHeld, Suits, IsHopAnswer};
 
 use crate::end::{end_row, ends_in, rows_in};
+use crate::query::{HopColumn, HopQuery};
 use crate::row::hop_row;
-use pg_check::{HopColumn, HopQuery};
 use pg_value::{EdgeNo, EdgeShape, List, Row, Shapes, Stored, sort_rows};
 use std::alloc::{AllocError, Global};
 

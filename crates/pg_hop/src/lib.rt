@@ -3,6 +3,10 @@
 
 mod end;
 mod hop;
+mod query;
+mod reads;
 mod row;
 
 pub use hop::hop_rows;
+pub use query::{HopColumn, HopQuery};
+pub use reads::view_rows;

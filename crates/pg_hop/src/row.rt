@@ -6,12 +6,12 @@ ghost use Rattle.pg_value.specs.declared.value.Value.TheVariants.{Null};
 ghost use Rattle.pg_value.specs.Graph.{value_in};
 ghost use Rattle.pg_hop.specs.EdgeRows as spec;
 
-use pg_check::HopColumn;
+use crate::query::HopColumn;
 use pg_value::{List, Row, Stored, TableNo, Value, copy_value};
 use std::alloc::{AllocError, Global};
 
 /// The place of the column that is given for a table.
-fn place_in(column: &HopColumn, table: TableNo) -> Option<u32>
+pub fn place_in(column: &HopColumn, table: TableNo) -> Option<u32>
     ensures { result ≡ slice_index_or column.now.columns table.0 None }
 {
     match column.columns.get(table.0 as usize) {
@@ -21,7 +21,7 @@ fn place_in(column: &HopColumn, table: TableNo) -> Option<u32>
 }
 
 /// A copy of the value at a place, NULL where there is none.
-fn copy_at(alloc: Global, values: &[Value], at: u32) -> Result<Value, AllocError>
+pub fn copy_at(alloc: Global, values: &[Value], at: u32) -> Result<Value, AllocError>
     ensures { IfOk result (λ v. v ≡ slice_index_or values.now at Null) }
 {
     match values.get(at as usize) {
@@ -83,9 +83,9 @@ pub fn hop_row(
 ) -> Result<Row, AllocError>
     ensures { IfOk result (λ row. row ≡ spec.hop_row source.now edge.now dest.now columns.now) }
 {
-    let mut values = List::new(alloc);
+    let mut values = List::with_room(alloc, columns.len())?;
     for column in columns {
         values.push(column_value(alloc, source, edge, dest, column)?)?;
     }
-    Ok(Row { values })
+    Row::new(alloc, values)
 }

@@ -53,7 +53,7 @@ module _ {X K : Type 0} (key : X → K) (cmp : K → K → Ordering) (o : Exact 
   rises k (x ∷ xs) a (suc i) zero d m l = absurd (omega arith)
   rises k (x ∷ xs) a (suc i) (suc j) d m l = rises k xs a.1 i j d (omega arith) (omega arith)
 
-  at_item : (k : K) (xs : List X) (i : ℕ) (d : X) → Ascends key cmp xs → i < length xs → cmp (key (get_or xs i d)) k ≡ Equal → Sought key cmp k xs (Ok i)
+  pub at_item : (k : K) (xs : List X) (i : ℕ) (d : X) → Ascends key cmp xs → i < length xs → cmp (key (get_or xs i d)) k ≡ Equal → Sought key cmp k xs (Ok i)
   at_item k [] i d a l e = absurd (omega arith)
   at_item k (x ∷ xs) zero d a l e =
       let q : cmp k (key x) ≡ Equal = turn o (key x) k Equal e in
@@ -63,7 +63,7 @@ module _ {X K : Type 0} (key : X → K) (cmp : K → K → Ordering) (o : Exact 
       let g : cmp k (key x) ≡ Greater = turn o (key x) k Less (subst (λ j. cmp (key x) j ≡ Less) (o.exact (key (get_or xs i d)) k e) (above_at (key x) xs i d a.0 (omega arith))) in
       (rw (ap is_gt g) (rw add-one (ap suc r.0)), l, ap (λ b. cond b (Some x) (get key cmp k xs)) (ap is_eq g) ∙ r.2)
 
-  at_gap : (k : K) (xs : List X) (i : ℕ) → i ≤ length xs → ((j : ℕ) (d : X) → j < i → cmp (key (get_or xs j d)) k ≡ Less) → ((j : ℕ) (d : X) → i ≤ j → j < length xs → cmp (key (get_or xs j d)) k ≡ Greater) → Ascends key cmp xs → Sought key cmp k xs (Err i)
+  pub at_gap : (k : K) (xs : List X) (i : ℕ) → i ≤ length xs → ((j : ℕ) (d : X) → j < i → cmp (key (get_or xs j d)) k ≡ Less) → ((j : ℕ) (d : X) → i ≤ j → j < length xs → cmp (key (get_or xs j d)) k ≡ Greater) → Ascends key cmp xs → Sought key cmp k xs (Err i)
   at_gap k [] i l f g a = (omega arith, l, refl)
   at_gap k (x ∷ xs) zero l f g a =
       let q : cmp k (key x) ≡ Less = turn o (key x) k Greater (g 0 x (omega arith) (omega arith)) in

@@ -1,12 +1,16 @@
 -- What the statements that run mean: how they are read, and what the catalog, a change and a query make of them.
-use Rattle.std.specs.Prelude.{ℕ, ◌≡◌, cond, List, [], map, length, slice_get}
+use Rattle.std.specs.Prelude.{ℕ, ◌≡◌, ◌⊎◌, Bool, true, false, cond, List, [], map, length, slice_get, get_or}
 use Rattle.std.specs.declared.option.Option.{Option}
 use Rattle.std.specs.declared.option.Option.TheVariants.{Some, None}
 use Rattle.std.specs.Option.{unwrap_or}
+use Rattle.std.specs.List.Sorted.{IsSorted}
+use Rattle.pg_keyed.specs.Lists.{Each}
 use Rattle.pg_value.specs.declared.row.Row.{Row}
 use Rattle.pg_value.specs.declared.shape.TableNo.{TableNo}
+use Rattle.pg_value.specs.declared.shape.TableSet.{TableSet}
 use Rattle.pg_value.specs.declared.shape.TableShape.{TableShape}
 use Rattle.pg_value.specs.declared.write.Write.{Write}
+use Rattle.pg_value.specs.Orders.{row_order}
 use Rattle.pg_value.specs.Tables.{Tables}
 use Rattle.pg_ast.specs.declared.define.Define.{Define}
 use Rattle.pg_ast.specs.declared.define.Define.TheVariants as definitions
@@ -32,48 +36,58 @@ use Rattle.pg_rules.specs.Changes.InsertEffect.{row_of, with_rows, IsFirstFault,
 use Rattle.pg_meaning.specs.Answers.{Answer, column_names}
 use Rattle.pg_script.specs.declared.script.Item.{Item}
 use Rattle.pg_script.specs.declared.script.Item.TheVariants.{Sql, After}
+use Rattle.pg_script.specs.declared.script.Script.{Script}
 use Rattle.pg_script.specs.declared.outcome.FaultKind.{FaultKind}
 use Rattle.pg_script.specs.declared.outcome.FaultKind.TheVariants as kinds
 use Rattle.pg_script.specs.declared.outcome.ColumnFault.TheVariants as column_faults
-use Rattle.pg_script.specs.Judged.{Reading, Unread, Defines, Changes, Asks, Ruling, Faulty, Fine, Refusal, IsDuplicate, IsTooMany, IsAtColumn, Effect, Stopped, Done, Judges}
+use Rattle.pg_script.specs.Judged.{Reading, Unread, Defines, Changes, Asks, Waits, Ruling, Faulty, Fine, Refusal, IsDuplicate, IsTooMany, IsAtColumn, Effect, Stopped, Done, Found, Listed, Judges}
+use Rattle.pg_script.specs.Legal.{no_section}
 use Rattle.pg_sql.specs.declared.parsed.Parsed.{Parsed}
 use Rattle.pg_sql.specs.declared.parsed.Parsed.TheVariants as parsed
 use Rattle.pg_sql.specs.Parsed.{IsParsedOf}
 use Rattle.pg_rules.specs.Changes.PlainInsert.{is_plain}
-use Rattle.pg_rules.specs.declared.fault.CheckFault.{CheckFault}
-use Rattle.pg_rules.specs.declared.fault.CheckFault.TheVariants as check
-use Rattle.pg_rules.specs.Queries.OneHop.{is_one_hop, check_fault}
-use Rattle.pg_check.specs.OneHopCheck.{IsCheckedOf}
+use Rattle.pg_ast.specs.Trees.{Every}
+use Rattle.pg_meaning.specs.declared.checked.CExpr.TheVariants.{Property}
+use Rattle.pg_meaning.specs.declared.checked.CheckedColumn.{CheckedColumn}
+use Rattle.pg_meaning.specs.HopQuery.{one_hop_query}
+use Rattle.pg_rules.specs.declared.fault.QueryFault.{QueryFault}
+use Rattle.pg_rules.specs.declared.fault.QueryFault.TheVariants as query
+use Rattle.pg_rules.specs.Catalog.GraphLookUps.{tables_of}
+use Rattle.pg_rules.specs.Queries.{graph_of, query_fault}
+use Rattle.pg_rules.specs.Queries.CheckedQueries.{checked_query, set_of}
 
 -- READING
 
+-- a query, and the place at which it begins
+abbrev pub Asked : Type 0
+Asked = Query × ℕ
+
 -- an INSERT without a list of columns whose values are literals is run
-abbrev pub says_insert : ℕ → Insert → Reading Define Insert Query
+abbrev pub says_insert : ℕ → Insert → Reading Define Insert Asked
 says_insert at i = cond (is_plain i) (Changes i) (Unread kinds.NotYet at)
 
--- a query of one edge whose columns are plain properties is run
-abbrev pub says_query : ℕ → Query → Reading Define Insert Query
-says_query at q = cond (is_one_hop q) (Asks q) (Unread kinds.NotYet at)
-
 -- what a statement says, which begins at a place; one that is not run yet is refused there
-abbrev pub says : ℕ → Statement → Reading Define Insert Query
+abbrev pub says : ℕ → Statement → Reading Define Insert Asked
 says at (statements.Define d) = Defines d at
 says at (statements.Insert i) = says_insert at i
-says at (statements.Query q) = says_query at q
+says at (statements.Query q) = Asks (q, at)
 says at (statements.Update u) = Unread kinds.NotYet at
 says at (statements.Delete d) = Unread kinds.NotYet at
 says at statements.Begin = Unread kinds.NotYet at
 says at statements.Commit = Unread kinds.NotYet at
 says at statements.Rollback = Unread kinds.NotYet at
 
-abbrev pub reading_of : Parsed → Reading Define Insert Query
+abbrev pub reading_of : Parsed → Reading Define Insert Asked
 reading_of (parsed.Statement tree at) = says at tree
 reading_of (parsed.Fault at) = Unread kinds.Syntax at
 
--- an item of a script of this text. AFTER is not run yet: a script of one session has none.
-abbrev pub reads : List ℕ → Item → Reading Define Insert Query → Type 0
-reads text (Sql from to) r = (p : Parsed) × IsParsedOf text from to p × (r ≡ reading_of p)
-reads text (After section n) r = ⊥
+abbrev pub section_name : Script → ℕ → List ℕ
+section_name script n = (get_or script.sections n no_section).name
+
+-- an item of a script: a statement is a part of its text, and AFTER waits for the section that it names
+abbrev pub reads : Script → Item → Reading Define Insert Asked → Type 0
+reads script (Sql from to) r = (p : Parsed) × IsParsedOf script.text from to p × (r ≡ reading_of p)
+reads script (After section n) r = r ≡ Waits (section_name script section) section n
 
 -- DEFINITIONS
 
@@ -142,27 +156,55 @@ affects d tables ws (changes.Delete table condition) e = ⊥
 
 -- QUERIES
 
-abbrev pub check_refusal : CheckFault → Option (FaultKind × ℕ)
-check_refusal (check.NoGraph p) = Some (kinds.NoGraph, p)
-check_refusal (check.NoProperty p) = Some (kinds.NoProperty, p)
-check_refusal (check.BadVariable p) = Some (kinds.BadVariable, p)
-check_refusal (check.Limit p) = Some (kinds.Limit, p)
-check_refusal check.Memory = None
+abbrev pub query_refusal : QueryFault → Option (FaultKind × ℕ)
+query_refusal (query.NoGraph p) = Some (kinds.NoGraph, p)
+query_refusal (query.NoLabel p) = Some (kinds.NoLabel, p)
+query_refusal (query.NoProperty p) = Some (kinds.NoProperty, p)
+query_refusal (query.Unbounded p) = Some (kinds.Unbounded, p)
+query_refusal (query.Bounds p) = Some (kinds.Bounds, p)
+query_refusal (query.BadVariable p) = Some (kinds.BadVariable, p)
+query_refusal (query.GroupUse p) = Some (kinds.GroupUse, p)
+query_refusal (query.Types p) = Some (kinds.Types, p)
+query_refusal (query.Wide p) = Some (kinds.Wide, p)
+query_refusal (query.Limit p) = Some (kinds.Limit, p)
+query_refusal query.Memory = None
 
-abbrev pub checks : Defined → Query → Ruling CheckedQuery → Type 0
-checks d q (Faulty kind at) = (f : CheckFault) × (check_fault d q ≡ Some f) × (check_refusal f ≡ Some (kind, at))
-checks d q (Fine y) = (check_fault d q ≡ None) × IsCheckedOf d q y
+-- Until patterns are searched, of the queries that are not refused this one is run: (x)-[e]->(y) over all tables of its graph, whose columns
+-- are plain properties.
+abbrev pub every_table : Defined → Query → Bool → TableSet
+every_table d q edges = set_of (tables_of d (graph_of d q) edges Every)
+
+abbrev pub IsProperty : CheckedColumn → Type 0
+IsProperty c = (x : ℕ) × (columns : List (Option ℕ)) × (c.expr ≡ Property x columns)
+
+abbrev pub IsOneHop : Defined → Query → CheckedQuery → Type 0
+IsOneHop d q y = (y ≡ one_hop_query y.graph (every_table d q false) (every_table d q true) y.columns) × Each IsProperty y.columns
+
+-- another that is not refused is NotYet, where it begins
+abbrev pub IsNotYet : Defined → Asked → FaultKind → ℕ → Type 0
+IsNotYet d (q, begin) kind at = (query_fault d q ≡ None) × (IsOneHop d q (checked_query d q) → ⊥) × (kind ≡ kinds.NotYet) × (at ≡ begin)
+
+abbrev pub checks : Defined → Asked → Ruling CheckedQuery → Type 0
+checks d (q, begin) (Faulty kind at) = ((f : QueryFault) × (query_fault d q ≡ Some f) × (query_refusal f ≡ Some (kind, at))) ⊎ IsNotYet d (q, begin) kind at
+checks d (q, begin) (Fine y) = (query_fault d q ≡ None) × (y ≡ checked_query d q) × IsOneHop d q y
+
+-- the rows of the answer, in value order
+abbrev pub answers : Defined → Tables → CheckedQuery → Found → Type 0
+answers d tables y (Listed rows) = Answer (shapes d) tables y rows × IsSorted row_order rows
 
 -- THE WHOLE
 
-abbrev pub language : List ℕ → Judges Defined Define Insert Query CheckedChange CheckedQuery
-language text = record {
-  reads = reads text;
+-- what the items of a script say
+abbrev pub language : Script → Judges Defined Define Insert Asked CheckedChange CheckedQuery
+language script = record {
+  reads = reads script;
   defines = defines;
   resolves = resolves;
   checks = checks;
   affects = affects;
-  answers = λ d tables y rows. Answer (shapes d) tables y rows;
+  answers = answers;
   columns = column_names;
   tables = λ d. map (λ t. t.0) d.0;
+  shapes = shapes;
+  most_writes = most_transaction_writes;
 }

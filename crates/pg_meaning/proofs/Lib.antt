@@ -13,3 +13,7 @@ pub mod ReadLaws
 mod GraphTrials
 mod PatternTrials
 mod JoinTrials
+pub mod StandingBindings
+pub mod FittingTuples
+pub mod BoundTuples
+pub mod OneAnswer

@@ -21,7 +21,7 @@ use Rattle.pg_meaning.specs.Bindings.{Binding, IsBinding, IsAllowed, Distinct}
 use Rattle.pg_meaning.specs.Members.{in_nil, not_in_cons}
 use Rattle.pg_meaning.specs.Cuts.{agree_by, one_agrees}
 use Rattle.pg_meaning.proofs.Social.{g, person, knows, hop}
-use Rattle.pg_meaning.proofs.Patterns.{persons, vertex, named, unnamed, times, right, pattern, unnamed_round, edge_1, edge_5}
+use Rattle.pg_meaning.proofs.Patterns.{vertex, named, unnamed, times, right, pattern, unnamed_round, edge_1, edge_5}
 
 -- AN EDGE TAKEN BACKWARDS
 

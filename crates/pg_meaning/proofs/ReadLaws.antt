@@ -38,11 +38,11 @@ or_true true = refl
 or_true false = refl
 
 module _ {X : Type 0} where
-  of_each : (P : X → Type 0) (xs : List X) (x : X) → Each P xs → Contains xs x → P x
+  pub of_each : (P : X → Type 0) (xs : List X) (x : X) → Each P xs → Contains xs x → P x
   of_each P [] x h c = absurd (in_nil x c)
   of_each P (y ∷ ys) x h c = elim (in_cons y ys x c) [ inl e ↦ subst P e h.0 | inr r ↦ of_each P ys x h.1 r ]
 
-  as_among : (xs : List X) (x : X) → Contains xs x → Among x xs
+  pub as_among : (xs : List X) (x : X) → Contains xs x → Among x xs
   as_among [] x c = absurd (in_nil x c)
   as_among (y ∷ ys) x c = elim (in_cons y ys x c) [ inl e ↦ inl (sym e) | inr r ↦ inr (as_among ys x r) ]
 

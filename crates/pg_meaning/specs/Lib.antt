@@ -10,6 +10,7 @@ pub mod LabelSets
 pub mod Meaning
 pub mod Members
 pub mod Mentions
+pub mod OneAnswer
 pub mod OneHop
 pub mod Outlines
 pub mod Reads

@@ -5,6 +5,7 @@ pub mod Graphs
 pub mod Patterns
 pub mod Queries
 pub mod Changes
+pub mod Bindings
 use Rattle.std.specs.Prelude.{ℕ, ◌≡◌, ◌<◌, ◌≤◌, true, List, length, Contains, Option, Some, IfSome}
 use Rattle.std.specs.List.{AllZip}
 use Rattle.pg_value.specs.declared.value.Kind.{Kind}

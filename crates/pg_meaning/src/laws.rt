@@ -4,9 +4,11 @@ ghost use Rattle.pg_value.specs.Tables.{Tables};
 ghost use Rattle.pg_meaning.specs.CExprs.{CTree};
 ghost use Rattle.pg_meaning.specs.Meaning.{Assignment, OfVars, value_of, vars_of};
 ghost use Rattle.pg_meaning.specs.Bindings.{Binding, path_binding};
+ghost use Rattle.pg_meaning.specs.Sound.Bindings.{BindingsStand, BoundTuplesFit, TuplesFit};
 ghost use Rattle.pg_meaning.specs.Sound.Changes.{ValuesAreNarrow};
 ghost use Rattle.pg_meaning.specs.Sound.Kinds.{ValuesAreWithin};
 ghost use Rattle.pg_meaning.specs.Reads.{HopsAreNeighbours, SelectionsByStart};
+ghost use Rattle.pg_meaning.specs.OneAnswer.{AnswersAreOne};
 ghost use Rattle.pg_meaning.specs.OneHop.{OneHopBindings, OneHopAnswers};
 
 /// The bindings of `(x)-[e]->(y)` are the edges of the graph, each once: under WALK, without a selector and conditions,
@@ -51,4 +53,23 @@ pub fn selections_by_start()
 /// value of SET over a row that fits its table.
 pub fn narrow_values()
     ensures { ValuesAreNarrow }
+{}
+
+/// A binding of a sound path pattern names rows of the graph's tables alone, and each of its lists has at most one element
+/// more than its walk has hops.
+pub fn bindings_stand()
+    ensures { BindingsStand }
+{}
+
+/// Of a sound query, bindings of its path patterns give each singleton one row, and each group variable rows of which there
+/// is at most one more than the longest walk has hops. Slots that have these are what the final condition and the columns may
+/// be evaluated over, with the same values.
+pub fn tuples_fit()
+    ensures tuples { TuplesFit }
+    ensures slots { BoundTuplesFit }
+{}
+
+/// Two answers of a query without ANY and ANY SHORTEST have the same rows, each as often, and in value order they are equal.
+pub fn answers_are_one()
+    ensures { AnswersAreOne }
 {}

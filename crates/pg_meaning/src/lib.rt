@@ -10,6 +10,7 @@ pub use checked::{
     CheckedSet, PathBinding, Slot,
 };
 pub use laws::{
-    binding_by_path, hops_are_neighbours, narrow_values, one_hop_answers, one_hop_bindings,
-    selections_by_start, value_by_variables, values_within_widths,
+    answers_are_one, binding_by_path, bindings_stand, hops_are_neighbours, narrow_values,
+    one_hop_answers, one_hop_bindings, selections_by_start, tuples_fit, value_by_variables,
+    values_within_widths,
 };

@@ -7,3 +7,6 @@ pub mod QueryTrials
 mod ChangeTrials
 mod SoundTrials
 pub mod KeptSound
+pub mod Accepted
+pub mod Written
+mod AcceptedTrials

@@ -1,5 +1,5 @@
 -- Where a query is not refused, and what its checked tree keeps.
-use Rattle.std.proofs.Common.{◌≡◌, ◌+◌, ℕ, Bool, true, false, not, refl, ap, sym, ◌∙◌, List, [], ◌∷◌, ◌++◌, map, Option, Some, None}
+use Rattle.std.proofs.Common.{◌≡◌, ◌+◌, ℕ, Bool, true, false, refl, ap, sym, ◌∙◌, List, [], ◌∷◌, ◌++◌, map, Option, Some, None}
 use Rattle.std.proofs.lemmas.List.{map-append}
 use Rattle.std.specs.Prelude.{option_map, filter_map, is_some}
 use Rattle.std.specs.List.{cons_option}
@@ -53,13 +53,13 @@ accepted d q h =
 -- MENTIONS
 
 module _ {V W : Type 0} (f : V → W) where
-  abbrev on_outline : Outline V → Outline W
+  abbrev pub on_outline : Outline V → Outline W
   on_outline o = record { nodes = map (option_map f) o.nodes; edges = map (option_map f) o.edges; quant = o.quant }
 
   abbrev on_spot : Spot V → Spot W
   on_spot s = record { variable = option_map f s.variable; edge = s.edge; part = s.part; end = s.end }
 
-  abbrev on_mention : Mention V → Mention W
+  abbrev pub on_mention : Mention V → Mention W
   on_mention m = record { variable = f m.variable; edge = m.edge; path = m.path; part = m.part; end = m.end }
 
   turn_kept : (ns es : List (Spot V)) → in_turn (map on_spot ns) (map on_spot es) ≡ map on_spot (in_turn ns es)
@@ -107,7 +107,7 @@ module _ {V W : Type 0} (f : V → W) where
   named_kept path [] = refl
   named_kept path (s ∷ ss) = (λ i. cons_option (spot_kept path s i) (named_kept path ss i)) ∙ cons_kept (mention_at path s) (filter_map (mention_at path) ss)
 
-  path_kept : (path : ℕ) (os : List (Outline V)) → mentions_in path (map on_outline os) ≡ map on_mention (mentions_in path os)
+  pub path_kept : (path : ℕ) (os : List (Outline V)) → mentions_in path (map on_outline os) ≡ map on_mention (mentions_in path os)
   path_kept path os = ap (filter_map (mention_at path)) (spots_kept os) ∙ named_kept path (spots os)
 
 -- FROM A QUERY TO ITS CHECKED TREE
@@ -125,7 +125,7 @@ module _ (d : Defined) (g : GraphNo) (variables : List Name) where
   outline_kept (parts.Edge arrow f quant) = refl
   outline_kept (parts.Group nodes arrows edges condition quant) = λ i. record { nodes = fillers_kept false nodes i; edges = fillers_kept true edges i; quant = quant }
 
-  outlines_kept : (ps : List Part) → map checked.outline_of (map (checked_part d g variables) ps) ≡ map (on_outline by) (map outline_of ps)
+  pub outlines_kept : (ps : List Part) → map checked.outline_of (map (checked_part d g variables) ps) ≡ map (on_outline by) (map outline_of ps)
   outlines_kept [] = refl
   outlines_kept (p ∷ ps) = λ i. outline_kept p i ∷ outlines_kept ps i
 

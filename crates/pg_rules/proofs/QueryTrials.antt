@@ -1,10 +1,9 @@
 -- The rules of queries, tried: each kind of refusal at its place, two kinds in one query, and the widths of accepted queries. The places are
 -- those of the bytes in scripts that are run.
-use Rattle.std.proofs.Common.{◌≡◌, ℕ, true, false, cond, List, [], ◌∷◌, map, Option, Some, None, refl}
+use Rattle.std.proofs.Common.{◌≡◌, ℕ, true, false, List, [], ◌∷◌, map, Option, Some, None, refl}
 use Rattle.std.specs.Prelude.{codes}
 use Rattle.pg_value.specs.declared.value.Kind.{Kind}
 use Rattle.pg_value.specs.declared.value.Kind.TheVariants as kinds
-use Rattle.pg_value.specs.declared.value.Value.TheVariants.{Int, Text}
 use Rattle.pg_ast.specs.declared.expr.Name.{Name}
 use Rattle.pg_ast.specs.declared.expr.Expr.{Expr}
 use Rattle.pg_ast.specs.declared.expr.Expr.TheVariants.{Property, Binary, Agg}
@@ -237,17 +236,17 @@ unfolding hidden-the_row-Expr-0 hidden
 width_124 = refl
 
 -- (x)-[e]->{1}(y) COLUMNS (SUM(e.w * e.w)), and with a third factor
-abbrev square : Expr
+abbrev pub square : Expr
 square = Binary Times (of e (codes "W") 0) (of e (codes "W") 0) 0
 
-abbrev summed : Expr → Query
+abbrev pub summed : Expr → Query
 summed argument = walk (node x 0 ∷ edge e (times 1 (Some 1) 0) ∷ node y 0 ∷ []) (Agg Sum argument 604 ∷ [])
 
 wide_sum : query_fault catalog (summed (Binary Times square (of e (codes "W") 0) 0)) ≡ Some (faults.Wide 604)
 unfolding hidden-the_row-Expr-0 hidden
 wide_sum = refl
 
-accepted_sum : query_fault catalog (summed square) ≡ None
+pub accepted_sum : query_fault catalog (summed square) ≡ None
 unfolding hidden-the_row-Expr-0 hidden
 accepted_sum = refl
 

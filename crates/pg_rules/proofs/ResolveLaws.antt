@@ -1,5 +1,5 @@
 -- Resolving an expression of a change keeps its kind and its width.
-use Rattle.std.proofs.Common.{◌≡◌, ◌+◌, ◌-◌, ◌≤◌, ℕ, zero, suc, Bool, true, false, cond, is_some, refl, ap, sym, ◌∙◌, arith, List, [], ◌∷◌, map, Option, Some, None, find}
+use Rattle.std.proofs.Common.{◌≡◌, ◌+◌, ◌-◌, ◌≤◌, ℕ, suc, Bool, true, false, cond, is_some, refl, ap, sym, ◌∙◌, arith, List, [], ◌∷◌, map, Option, Some, None, find}
 use Rattle.std.proofs.lemmas.Option.{slice_get-map}
 use Rattle.std.specs.Prelude.{option_map, slice_get}
 use Rattle.std.specs.List.{position_from}
@@ -74,7 +74,7 @@ same_column columns n h =
 abbrev frame : List ColumnEntry → Frame
 frame columns = OfColumns (shapes_of columns)
 
-same_kind : (columns : List ColumnEntry) (t : ExprTree) → HasDigits t → IsOfColumns columns t → kind_in (frame columns) (ctree_of (resolved columns t)) ≡ kind_of (names_of columns) t
+pub same_kind : (columns : List ColumnEntry) (t : ExprTree) → HasDigits t → IsOfColumns columns t → kind_in (frame columns) (ctree_of (resolved columns t)) ≡ kind_of (names_of columns) t
 same_kind columns (Literal v bits at) h k = refl
 same_kind columns (Wide at) h k = absurd h
 same_kind columns (ColumnOf n) h k = ap (option_map (λ (t : Typed). t.kind)) (same_column columns n k)
@@ -88,7 +88,7 @@ same_width_named : (o p : Option Typed) → o ≡ p → width_found o ≡ width_
 same_width_named o None e = ap width_found e
 same_width_named o (Some t) e = ap width_found e
 
-same_width : (columns : List ColumnEntry) (t : ExprTree) → HasDigits t → IsOfColumns columns t → width_in (frame columns) (ctree_of (resolved columns t)) ≡ width_of (names_of columns) t
+pub same_width : (columns : List ColumnEntry) (t : ExprTree) → HasDigits t → IsOfColumns columns t → width_in (frame columns) (ctree_of (resolved columns t)) ≡ width_of (names_of columns) t
 same_width columns (Literal v bits at) h k = sym h
 same_width columns (Wide at) h k = absurd h
 same_width columns (ColumnOf n) h k = same_width_named (column_at (shapes_of columns) (place_of columns n)) (names_of columns None n.text) (same_column columns n k)

@@ -102,7 +102,7 @@ edges_sound tables (g ∷ gs) s =
     each_append (sound.IsSoundEdge (table_shapes tables)) (map edge_shape g.1.edges) (edge_shapes gs)
     (each_mapped edge_shape (IsSoundEdge tables g.1) (sound.IsSoundEdge (table_shapes tables)) (edge_sound tables g.1) g.1.edges s.0.edges) (edges_sound tables gs s.1)
 
-shapes_sound : (d : Defined) → IsSound d → IsSmall d → sound.AreSoundShapes (shapes d)
+pub shapes_sound : (d : Defined) → IsSound d → IsSmall d → sound.AreSoundShapes (shapes d)
 shapes_sound d s small = record {
   few = subst (λ n. n ≤ 64) (sym (length-map d.0 shape_at)) small.0.0;
   tables = tables_sound d.0 s.tables small.0.1;
@@ -112,7 +112,7 @@ shapes_sound d s small = record {
 -- THE NUMBERS OF EDGE TABLES
 
 -- a number stands for an edge table among some shapes
-abbrev StandsFor : List EdgeShape → EdgeNo → EdgeEntry → Type 0
+abbrev pub StandsFor : List EdgeShape → EdgeNo → EdgeEntry → Type 0
 StandsFor all n e = slice_get all n.0 ≡ Some (edge_shape e)
 
 next_behind : (front : List EdgeShape) (s : EdgeShape) (back : List EdgeShape) → slice_get (front ++ s ∷ back) (length front) ≡ Some s
@@ -129,7 +129,7 @@ own_numbers front (e ∷ es) back n h =
       subst (λ all. AllZip (StandsFor all) (numbers_from (n + 1) es) es) (append_assoc front (s ∷ []) rest) (own_numbers (front ++ s ∷ []) es back (n + 1) longer),
     )
 
-abbrev edges_of : Graphs → ℕ → List EdgeEntry
+abbrev pub edges_of : Graphs → ℕ → List EdgeEntry
 edges_of gs n = (graph_in (slice_get gs n)).edges
 
 numbers_among : (front : List EdgeShape) (gs : Graphs) (n : ℕ) → AllZip (StandsFor (front ++ edge_shapes gs)) (numbers_from (length front + first_edge gs n) (edges_of gs n)) (edges_of gs n)
@@ -143,7 +143,7 @@ numbers_among front (g ∷ gs) (suc n) =
     subst (λ k. AllZip (StandsFor (front ++ (own ++ edge_shapes gs))) (numbers_from k (edges_of gs n)) (edges_of gs n)) counted
     (subst (λ all. AllZip (StandsFor all) (numbers_from (length (front ++ own) + first_edge gs n) (edges_of gs n)) (edges_of gs n)) (append_assoc front own (edge_shapes gs)) (numbers_among (front ++ own) gs n))
 
-numbers_stand : (d : Defined) (g : GraphNo) → AllZip (StandsFor (edge_shapes d.1)) (numbers_from (first_edge d.1 g.0) (edges_of d.1 g.0)) (edges_of d.1 g.0)
+pub numbers_stand : (d : Defined) (g : GraphNo) → AllZip (StandsFor (edge_shapes d.1)) (numbers_from (first_edge d.1 g.0) (edges_of d.1 g.0)) (edges_of d.1 g.0)
 numbers_stand d g = subst (λ k. AllZip (StandsFor (edge_shapes d.1)) (numbers_from k (edges_of d.1 g.0)) (edges_of d.1 g.0)) (zero-add (first_edge d.1 g.0)) (numbers_among [] d.1 g.0)
 
 -- GRAPHS
@@ -163,7 +163,7 @@ edge_stands d g shape h (n ∷ ns) (e ∷ es) z s = (
   edge_stands d g shape h ns es z.1 s.1,
 )
 
-tables_are : (d : Defined) (ns : List EdgeNo) (es : List EdgeEntry) → AllZip (StandsFor (edge_shapes d.1)) ns es → filter_map (table_of (shapes d)) ns ≡ map (λ (e : EdgeEntry). e.element.table) es
+pub tables_are : (d : Defined) (ns : List EdgeNo) (es : List EdgeEntry) → AllZip (StandsFor (edge_shapes d.1)) ns es → filter_map (table_of (shapes d)) ns ≡ map (λ (e : EdgeEntry). e.element.table) es
 tables_are d [] [] z = refl
 tables_are d [] (e ∷ es) z = absurd z
 tables_are d (n ∷ ns) [] z = absurd z
@@ -186,7 +186,7 @@ sound_at tables [] n s h = absurd (omega arith)
 sound_at tables (g ∷ gs) zero s h = s.0
 sound_at tables (g ∷ gs) (suc n) s h = sound_at tables gs n s.1 (omega arith)
 
-graph_sound : (d : Defined) (g : GraphNo) → IsSound d → g.0 < length d.1 → sound.IsSoundGraph (shapes d) (graph_shape d g)
+pub graph_sound : (d : Defined) (g : GraphNo) → IsSound d → g.0 < length d.1 → sound.IsSoundGraph (shapes d) (graph_shape d g)
 graph_sound d g s h =
     let entry : GraphEntry = graph_in (slice_get d.1 g.0) in
     let own : IsSoundGraph d.0 entry = sound_at d.0 d.1 g.0 s.graphs h in

@@ -64,7 +64,7 @@ one_zero h = omega arith
 zero_is_not_one : ◌≡◌ {A = TableNo} (record { 0 = 1 }) (record { 0 = 0 }) → ⊥
 zero_is_not_one e = one_zero (ap (λ (t : TableNo). t.0) e)
 
-catalog_is_sound : IsSound catalog
+pub catalog_is_sound : IsSound catalog
 catalog_is_sound = record {
   tables = (
     record { short = lit≤ tt; differ = (in_nil 0, tt); key = (record { column = key (codes "ID"); stands = refl; not_null = refl }, tt) },

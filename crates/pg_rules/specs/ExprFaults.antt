@@ -1,5 +1,5 @@
 -- Where an expression is refused: its operators and aggregates that meet a wrong kind, and what is too wide.
-use Rattle.std.specs.Prelude.{ℕ, ◌+◌, ◌&&◌, not, List, [], ◌∷◌, ◌++◌}
+use Rattle.std.specs.Prelude.{ℕ, ◌&&◌, not, List, [], ◌∷◌, ◌++◌}
 use Rattle.pg_ast.specs.Trees.{ExprTree, Literal, Wide, ColumnOf, PropertyOf, One, Two, Group, Counted}
 use Rattle.pg_rules.specs.Places.{place_if}
 use Rattle.pg_meaning.specs.Typing.{Names, kind_of, width_of, unary_takes, binary_takes, agg_takes, unary_width, binary_width, agg_width, too_wide}

@@ -1,4 +1,5 @@
 -- What a catalog holds, and the rules of definitions, changes and queries.
+pub mod Accepted
 pub mod ExprFaults
 pub mod Places
 pub mod Resolving
@@ -6,3 +7,4 @@ pub mod Catalog
 pub mod Changes
 pub mod Definitions
 pub mod Queries
+pub mod Written

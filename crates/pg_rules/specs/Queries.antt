@@ -1,7 +1,7 @@
 -- Which queries are refused before they read the tables, and where: for each kind of fault its places.
 pub mod Collections
 pub mod CheckedQueries
-pub mod OneHop
+pub mod TableSets
 use Rattle.std.specs.Prelude.{ℕ, ◌≡◌, ◌&&◌, ◌||◌, Bool, true, false, not, is_none, nat_lt, List, [], ◌∷◌, ◌++◌, map, length, flat_map, slice_get, Option, Some, None, option_map, option_to_list}
 use Rattle.std.specs.List.{list_any, list_all, find}
 use Rattle.std.specs.Option.{unwrap_or}

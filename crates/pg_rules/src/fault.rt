@@ -90,18 +90,3 @@ pub enum QueryFault {
     /// There was no memory.
     Memory,
 }
-
-/// Why a query of one edge is refused before it reads the tables, with places as in `QueryFault`.
-#[derive(Clone, Copy, PartialEq, Eq)]
-pub enum CheckFault {
-    /// A graph that does not exist.
-    NoGraph { at: u32 },
-    /// A property that no element table of the graph has.
-    NoProperty { at: u32 },
-    /// A variable that the pattern does not name.
-    BadVariable { at: u32 },
-    /// The 33rd column, at its first token.
-    Limit { at: u32 },
-    /// There was no memory.
-    Memory,
-}

@@ -12,9 +12,11 @@ pub use entry::{
     ColumnEntry, EdgeEntry, ElementEntry, GraphEntry, LabelEntry, PlacedElement, PropertyEntry,
     TableEntry,
 };
-pub use fault::{CheckFault, DefineFault, QueryFault, ResolveFault, RowFault};
+pub use fault::{DefineFault, QueryFault, ResolveFault, RowFault};
 pub use laws::{
-    accepted_queries, checked_queries, inserts_as_changes, resolved_expressions, sound_shapes,
+    accepted_changes_are_sound, accepted_queries, accepted_queries_are_sound,
+    accepted_tables_are_full, checked_queries, inserts_as_changes, resolved_expressions,
+    sound_shapes, table_sets, written_statements,
 };
 pub use places::{place_if, sooner};
 pub use sound::sound_definitions;

@@ -6,7 +6,6 @@ use Rattle.std.proofs.Common.{◌≡◌, ℕ, pos, ◌≤◌, List, [], ◌∷�
 use Rattle.std.specs.Prelude.{codes}
 use Rattle.std.specs.Fmt.{decimal}
 use Rattle.std.proofs.lemmas.Fmt.{decimal-digits_of}
-use Rattle.std.specs.List.Sorted.{IsSorted}
 use Rattle.std.specs.declared.cmp.Ordering.TheVariants.{Less}
 use Rattle.std.specs.declared.option.Option.TheVariants.{Some, None}
 use Rattle.pg_value.specs.declared.value.Value.TheVariants.{Int, Text}
@@ -19,13 +18,13 @@ use Rattle.pg_value.specs.declared.write.Write.{Write}
 use Rattle.pg_value.specs.declared.write.Commit.{Commit}
 use Rattle.pg_value.specs.Graph.{edges}
 use Rattle.pg_value.specs.Orders.{row_order}
-use Rattle.pg_value.specs.Tables.{stored_at}
+use Rattle.pg_value.specs.Tables.{Tables, stored_at}
 use Rattle.pg_value.specs.Log.{after, conflict, view, IsLawful}
 use Rattle.pg_script.specs.declared.script.Item.{Item}
 use Rattle.pg_script.specs.declared.outcome.Outcome.{Outcome}
 use Rattle.pg_script.specs.declared.outcome.Outcome.TheVariants.{Began, Changed, ChangedAlone, Committed, Rows, After, Conflict}
-use Rattle.pg_script.specs.Judged.{Judges, Session, Judged, Begins, Commits, Changes, Asks, Waits, Fine, Done, begun, committed, changed, changed_alone, answered, waited, logged, conflicted}
-use Rattle.pg_script.specs.Session.{whole, Runs, number, printed}
+use Rattle.pg_script.specs.Judged.{Judges, Session, Judged, View, Begins, Commits, Changes, Asks, Waits, Fine, Done, Listed, begun, committed, changed, changed_alone, answered, waited, logged, conflicted}
+use Rattle.pg_script.specs.Session.{IsMet, whole, Runs, number, printed}
 use Rattle.pg_script.specs.Text.{outcome_text}
 
 -- THE TABLES AND THE WRITES
@@ -83,6 +82,9 @@ closed catalog = record { open_ = None; catalog = catalog }
 abbrev pub opened : {K : Type 0} → K → ℕ → List Write → Session K
 opened catalog k ws = record { open_ = Some (record { from = k; writes = ws }); catalog = catalog }
 
+abbrev pub view_of : ℕ → List Write → Tables → View
+view_of k ws t = record { from = k; writes = ws; tables = t }
+
 -- LOST UPDATE: sessions a and b (sections 1 and 2) begin over version 2 and write the row of person 1; a commits first.
 
 abbrev pub lost_update : List Commit
@@ -104,18 +106,18 @@ lost_update_later = refl
 
 module _ {K D C Q X Y : Type 0} (J : Judges K D C Q X Y) (catalog : K) (tables : J.tables catalog ≡ names) where
   -- a: `3 commit from 2 at 3`, by `committed` and `logged`. (False if `logged` asked for another number, section or version.)
-  pub lost_update_a : (outs : ℕ → List Outcome) (item : Item) → J.reads item Commits → Judged J (whole limit lost_update outs 1) 1 2 (opened catalog 2 (person 1 (codes "A") ∷ [])) item (Committed 2 3) (closed catalog)
-  lost_update_a outs item reads = committed _ reads refl (λ e. cc) (logged 3 (commit 1 2 (person 1 (codes "A") ∷ [])) (setup, [], refl, refl) (record { session = refl; from = refl; writes = refl }) refl) refl
+  pub lost_update_a : (met : ℕ → ℕ → ℕ → Type 0) (item : Item) → J.reads item Commits → Judged J (whole limit lost_update met 1) 1 2 (opened catalog 2 (person 1 (codes "A") ∷ [])) item (Committed 2 3) (closed catalog)
+  lost_update_a met item reads = committed _ reads refl (λ e. cc) (logged 3 (commit 1 2 (person 1 (codes "A") ∷ [])) (setup, [], refl, refl) (record { session = refl; from = refl; writes = refl }) refl) refl
 
   -- b: `1 begin at 2`, `2 changed 1 at 2`, `3 refused Conflict PERSON (1) from 2 at 3`, by `begun`, `changed`, `committed`
   -- and `conflicted`; the transaction is then over. (False if a conflict named another commit, or left the transaction open.)
-  pub lost_update_b : (outs : ℕ → List Outcome) (i j k : Item) (c : C) (x : X) → J.reads i Begins → J.reads j (Changes c) → J.reads k Commits → J.resolves catalog c (Fine x) → J.affects catalog (view lost_update 2 []) [] x (Done (person 1 (codes "B") ∷ []) 1) → Runs J (whole limit lost_update outs 2) 2 2 (closed catalog) (i ∷ j ∷ k ∷ []) (Began 2 ∷ Changed 1 2 ∷ Conflict (codes "PERSON") (key 1) 2 3 ∷ []) (closed catalog)
-  lost_update_b outs i j k c x begins changes commits resolves affects = (
+  pub lost_update_b : (met : ℕ → ℕ → ℕ → Type 0) (i j k : Item) (c : C) (x : X) → J.reads i Begins → J.reads j (Changes c) → J.reads k Commits → J.resolves catalog c (Fine x) → J.affects catalog (view lost_update 2 []) [] x (Done (person 1 (codes "B") ∷ []) 1) → Runs J (whole limit lost_update met 2) 2 2 (closed catalog) (i ∷ j ∷ k ∷ []) (Began 2 ∷ Changed 1 2 ∷ Conflict (codes "PERSON") (key 1) 2 3 ∷ []) (closed catalog)
+  lost_update_b met i j k c x begins changes commits resolves affects = (
     opened catalog 2 [],
     begun 2 begins refl (omega arith, omega arith, λ _. refl) refl refl,
     (
       opened catalog 2 (person 1 (codes "B") ∷ []),
-      changed c x 2 1 [] _ _ changes resolves refl (omega arith, refl) affects refl refl,
+      changed c x (view_of 2 [] _) 1 _ changes resolves (record { under = refl; sees = (omega arith, refl) }) affects refl refl,
       (
         closed catalog,
         committed _ commits refl (λ e. cc) (conflicted (person 1 (codes "B")) 3 (omega arith, refl) (rw tables refl)) refl,
@@ -172,13 +174,13 @@ write_skew_lawful = record {
 module _ {K D C Q X Y : Type 0} (J : Judges K D C Q X Y) (catalog : K) where
   -- b: `4 commit from 2 at 4`, by `committed` and `logged`. (False if `logged` asked that nothing stood between the version and
   -- the commit, or counted the setup's commits apart.)
-  pub write_skew_b : (outs : ℕ → List Outcome) (item : Item) → J.reads item Commits → Judged J (whole limit write_skew outs 2) 2 2 (opened catalog 2 (person 2 (codes "B") ∷ [])) item (Committed 2 4) (closed catalog)
-  write_skew_b outs item reads = committed _ reads refl (λ e. cc) (logged 4 (commit 2 2 (person 2 (codes "B") ∷ [])) (setup ++ commit 1 2 (person 1 (codes "A") ∷ []) ∷ [], [], refl, refl) (record { session = refl; from = refl; writes = refl }) refl) refl
+  pub write_skew_b : (met : ℕ → ℕ → ℕ → Type 0) (item : Item) → J.reads item Commits → Judged J (whole limit write_skew met 2) 2 2 (opened catalog 2 (person 2 (codes "B") ∷ [])) item (Committed 2 4) (closed catalog)
+  write_skew_b met item reads = committed _ reads refl (λ e. cc) (logged 4 (commit 2 2 (person 2 (codes "B") ∷ [])) (setup ++ commit 1 2 (person 1 (codes "A") ∷ []) ∷ [], [], refl, refl) (record { session = refl; from = refl; writes = refl }) refl) refl
 
   -- b's query reads person 1 as version 2 has it, by `answered`, also after a's commit, which is the third. (False if a query
   -- in a transaction read the newest version.)
-  pub write_skew_reads : (outs : ℕ → List Outcome) (item : Item) (q : Q) (y : Y) (rows : List Row) → J.reads item (Asks q) → J.checks catalog q (Fine y) → J.answers catalog (view write_skew 2 []) y rows → IsSorted row_order rows → Judged J (whole limit write_skew outs 2) 2 2 (opened catalog 2 []) item (Rows 2 0 (J.columns y) rows) (opened catalog 2 [])
-  write_skew_reads outs item q y rows reads checks answers sorted = answered q y 2 0 [] _ rows reads checks (inl refl) (omega arith, refl) (omega arith, omega arith) answers sorted refl refl
+  pub write_skew_reads : (met : ℕ → ℕ → ℕ → Type 0) (item : Item) (q : Q) (y : Y) (rows : List Row) → J.reads item (Asks q) → J.checks catalog q (Fine y) → J.answers catalog (view write_skew 2 []) y (Listed rows) → Judged J (whole limit write_skew met 2) 2 2 (opened catalog 2 []) item (Rows 2 0 (J.columns y) rows) (opened catalog 2 [])
+  write_skew_reads met item q y rows reads checks answers = answered q y (view_of 2 [] _) 0 rows reads checks (inl (record { under = refl; sees = (omega arith, refl) })) answers (omega arith, omega arith) refl refl
 
 -- that version has the name from before a's commit, and version 3 the one from after it. (False if a version held a commit
 -- too many or too few.)
@@ -218,16 +220,16 @@ own_writes_order = (refl, refl)
 module _ {K D C Q X Y : Type 0} (J : Judges K D C Q X Y) (catalog : K) where
   -- a: `begin at 2`, `changed 1 at 2`, `rows .. at 2 base 0`, by `begun`, `changed` and `answered`. It ends with its
   -- transaction open, which prints `end rolled back`. (False if the query read the version without the writes.)
-  pub own_writes_a : (outs : ℕ → List Outcome) (i j k : Item) (c : C) (x : X) (q : Q) (y : Y) (rows : List Row) → J.reads i Begins → J.reads j (Changes c) → J.reads k (Asks q) → J.resolves catalog c (Fine x) → J.affects catalog (view setup 2 []) [] x (Done eve 1) → J.checks catalog q (Fine y) → J.answers catalog (view setup 2 eve) y rows → IsSorted row_order rows → Runs J (whole limit setup outs 1) 1 2 (closed catalog) (i ∷ j ∷ k ∷ []) (Began 2 ∷ Changed 1 2 ∷ Rows 2 0 (J.columns y) rows ∷ []) (opened catalog 2 eve)
-  own_writes_a outs i j k c x q y rows begins changes asks resolves affects checks answers sorted = (
+  pub own_writes_a : (met : ℕ → ℕ → ℕ → Type 0) (i j k : Item) (c : C) (x : X) (q : Q) (y : Y) (rows : List Row) → J.reads i Begins → J.reads j (Changes c) → J.reads k (Asks q) → J.resolves catalog c (Fine x) → J.affects catalog (view setup 2 []) [] x (Done eve 1) → J.checks catalog q (Fine y) → J.answers catalog (view setup 2 eve) y (Listed rows) → Runs J (whole limit setup met 1) 1 2 (closed catalog) (i ∷ j ∷ k ∷ []) (Began 2 ∷ Changed 1 2 ∷ Rows 2 0 (J.columns y) rows ∷ []) (opened catalog 2 eve)
+  own_writes_a met i j k c x q y rows begins changes asks resolves affects checks answers = (
     opened catalog 2 [],
     begun 2 begins refl (omega arith, omega arith, λ _. refl) refl refl,
     (
       opened catalog 2 eve,
-      changed c x 2 1 [] _ _ changes resolves refl (omega arith, refl) affects refl refl,
+      changed c x (view_of 2 [] _) 1 _ changes resolves (record { under = refl; sees = (omega arith, refl) }) affects refl refl,
       (
         opened catalog 2 eve,
-        answered q y 2 0 eve _ rows asks checks (inl refl) (omega arith, refl) (omega arith, omega arith) answers sorted refl refl,
+        answered q y (view_of 2 eve _) 0 rows asks checks (inl (record { under = refl; sees = (omega arith, refl) })) answers (omega arith, omega arith) refl refl,
         refl,
       ),
     ),
@@ -235,8 +237,8 @@ module _ {K D C Q X Y : Type 0} (J : Judges K D C Q X Y) (catalog : K) where
 
   -- b: `1 rows .. at 2 base 0`, by `answered` at a start of its own, without writes. (False if a statement outside a
   -- transaction could see the open transaction of another section.)
-  pub own_writes_b : (outs : ℕ → List Outcome) (item : Item) (q : Q) (y : Y) (rows : List Row) → J.reads item (Asks q) → J.checks catalog q (Fine y) → J.answers catalog (view setup 2 []) y rows → IsSorted row_order rows → Judged J (whole limit setup outs 2) 2 2 (closed catalog) item (Rows 2 0 (J.columns y) rows) (closed catalog)
-  own_writes_b outs item q y rows reads checks answers sorted = answered q y 2 0 [] _ rows reads checks (inr (refl, (omega arith, omega arith, λ _. refl), refl)) (omega arith, refl) (omega arith, omega arith) answers sorted refl refl
+  pub own_writes_b : (met : ℕ → ℕ → ℕ → Type 0) (item : Item) (q : Q) (y : Y) (rows : List Row) → J.reads item (Asks q) → J.checks catalog q (Fine y) → J.answers catalog (view setup 2 []) y (Listed rows) → Judged J (whole limit setup met 2) 2 2 (closed catalog) item (Rows 2 0 (J.columns y) rows) (closed catalog)
+  own_writes_b met item q y rows reads checks answers = answered q y (view_of 2 [] _) 0 rows reads checks (inr (record { closed = refl; starts = (omega arith, omega arith, λ _. refl); unwritten = refl; sees = (omega arith, refl) })) answers (omega arith, omega arith) refl refl
 
 -- AFTER: a writes persons 1 and 9 outside a transaction, in the commits 3 and 4; b waits for a's second item.
 
@@ -248,17 +250,17 @@ after_outs n = cond (n == 1) (ChangedAlone 1 2 3 ∷ ChangedAlone 1 3 4 ∷ []) 
 
 -- a's second item is found finished at length 4 and not at length 3, where it had not been answered, and there is no third
 -- item. (False if AFTER looked only at the first item, at a's versions in place of its commits, or one item too far.)
-pub after_met : (whole limit after_log after_outs 2).meets 2 1 2 4
-after_met = (omega arith, omega arith, omega arith, (omega arith, (omega arith, tt)))
+pub after_met : (whole limit after_log (IsMet after_outs) 2).meets 2 1 2 4
+after_met = (omega arith, omega arith, (omega arith, (omega arith, (omega arith, tt))))
 
-pub after_too_early : (whole limit after_log after_outs 2).meets 2 1 2 3 → ⊥
-after_too_early m = let e = m.3.1.0 in omega arith
+pub after_too_early : (whole limit after_log (IsMet after_outs) 2).meets 2 1 2 3 → ⊥
+after_too_early m = let e = m.2.1.1.0 in omega arith
 
-pub after_no_third : (whole limit after_log after_outs 2).meets 2 1 3 4 → ⊥
-after_no_third m = let e = m.2 in omega arith
+pub after_no_third : (whole limit after_log (IsMet after_outs) 2).meets 2 1 3 4 → ⊥
+after_no_third m = let e = m.2.0 in omega arith
 
 -- having met it, b may start at version 4 alone. (False if AFTER raised nothing, or only to the version that a read.)
-pub after_starts : (k : ℕ) → (whole limit after_log after_outs 2).starts (max 2 (number 2 (After (codes "a") 2 4))) k → k ≡ 4
+pub after_starts : (k : ℕ) → (whole limit after_log (IsMet after_outs) 2).starts (max 2 (number 2 (After (codes "a") 2 4))) k → k ≡ 4
 after_starts k s = let e = s.0 in let f = s.1 in omega arith
 
 -- at that version all six rows of KNOWS are edges. (False if a version left its last commit out.)
@@ -268,66 +270,66 @@ after_edges = refl
 module _ {K D C Q X Y : Type 0} (J : Judges K D C Q X Y) (catalog : K) (tables : J.tables catalog ≡ names) where
   -- a: `1 changed 1 from 2 at 3`, `2 changed 1 from 3 at 4`, by `changed_alone` and `logged`. (False if a start fixed the
   -- length of the whole log, or if the second had to start where the first did.)
-  pub after_a : (i j : Item) (c d : C) (x y : X) → J.reads i (Changes c) → J.reads j (Changes d) → J.resolves catalog c (Fine x) → J.resolves catalog d (Fine y) → J.affects catalog (view after_log 2 []) [] x (Done (person 1 (codes "A") ∷ []) 1) → J.affects catalog (view after_log 3 []) [] y (Done eve 1) → Runs J (whole limit after_log after_outs 1) 1 2 (closed catalog) (i ∷ j ∷ []) (after_outs 1) (closed catalog)
+  pub after_a : (i j : Item) (c d : C) (x y : X) → J.reads i (Changes c) → J.reads j (Changes d) → J.resolves catalog c (Fine x) → J.resolves catalog d (Fine y) → J.affects catalog (view after_log 2 []) [] x (Done (person 1 (codes "A") ∷ []) 1) → J.affects catalog (view after_log 3 []) [] y (Done eve 1) → Runs J (whole limit after_log (IsMet after_outs) 1) 1 2 (closed catalog) (i ∷ j ∷ []) (after_outs 1) (closed catalog)
   after_a i j c d x y first second fine fine' one two = (
     closed catalog,
-    changed_alone c x 2 1 _ _ first fine refl (omega arith, omega arith, λ _. refl) (omega arith, refl) one (omega arith) (logged 3 (commit 1 2 (person 1 (codes "A") ∷ [])) (setup, commit 1 3 eve ∷ [], refl, refl) (record { session = refl; from = refl; writes = refl }) refl) refl,
+    changed_alone c x (view_of 2 [] _) 1 _ first fine (record { closed = refl; starts = (omega arith, omega arith, λ _. refl); unwritten = refl; sees = (omega arith, refl) }) one (omega arith) (logged 3 (commit 1 2 (person 1 (codes "A") ∷ [])) (setup, commit 1 3 eve ∷ [], refl, refl) (record { session = refl; from = refl; writes = refl }) refl) refl,
     (
       closed catalog,
-      changed_alone d y 3 1 _ _ second fine' refl (omega arith, omega arith, λ _. refl) (omega arith, refl) two (omega arith) (logged 4 (commit 1 3 eve) (setup ++ commit 1 2 (person 1 (codes "A") ∷ []) ∷ [], [], refl, refl) (record { session = refl; from = refl; writes = refl }) refl) refl,
+      changed_alone d y (view_of 3 [] _) 1 _ second fine' (record { closed = refl; starts = (omega arith, omega arith, λ _. refl); unwritten = refl; sees = (omega arith, refl) }) two (omega arith) (logged 4 (commit 1 3 eve) (setup ++ commit 1 2 (person 1 (codes "A") ∷ []) ∷ [], [], refl, refl) (record { session = refl; from = refl; writes = refl }) refl) refl,
       refl,
     ),
   )
 
   -- b: `1 after a 2 at 4`, `2 rows .. at 4 base 0`, by `waited` and `answered`. (False if AFTER printed another
   -- length than the one at which it was met, or if a later start might not be there.)
-  pub after_b : (i j : Item) (q : Q) (y : Y) (rows : List Row) → J.reads i (Waits (codes "a") 1 2) → J.reads j (Asks q) → J.checks catalog q (Fine y) → J.answers catalog (view after_log 4 []) y rows → IsSorted row_order rows → Runs J (whole limit after_log after_outs 2) 2 2 (closed catalog) (i ∷ j ∷ []) (After (codes "a") 2 4 ∷ Rows 4 0 (J.columns y) rows ∷ []) (closed catalog)
-  after_b i j q y rows waits asks checks answers sorted = (
+  pub after_b : (i j : Item) (q : Q) (y : Y) (rows : List Row) → J.reads i (Waits (codes "a") 1 2) → J.reads j (Asks q) → J.checks catalog q (Fine y) → J.answers catalog (view after_log 4 []) y (Listed rows) → Runs J (whole limit after_log (IsMet after_outs) 2) 2 2 (closed catalog) (i ∷ j ∷ []) (After (codes "a") 2 4 ∷ Rows 4 0 (J.columns y) rows ∷ []) (closed catalog)
+  after_b i j q y rows waits asks checks answers = (
     closed catalog,
     waited (codes "a") 1 2 4 waits after_met refl refl,
     (
       closed catalog,
-      answered q y 4 0 [] _ rows asks checks (inr (refl, (omega arith, omega arith, λ _. refl), refl)) (omega arith, refl) (omega arith, omega arith) answers sorted refl refl,
+      answered q y (view_of 4 [] _) 0 rows asks checks (inr (record { closed = refl; starts = (omega arith, omega arith, λ _. refl); unwritten = refl; sees = (omega arith, refl) })) answers (omega arith, omega arith) refl refl,
       refl,
     ),
   )
 
 -- PINNED BASE: r begins over version 2; w commits 300 times, and the commit that finds 256 over base 0 folds first.
 
-module _ (log : List Commit) (outs : ℕ → List Outcome) (n : ℕ) where
+module _ (log : List Commit) (met : ℕ → ℕ → ℕ → Type 0) (n : ℕ) where
   -- r's query over version 2 may read over base 0, w's over version 302 over base 256 and not over base 0; version 256 is the
   -- last over base 0, and no base is newer than its version. (False if bases were bounded by the log's length, or at 255.)
-  pub pinned_base_of_r : (whole limit log outs n).bases 2 0
+  pub pinned_base_of_r : (whole limit log met n).bases 2 0
   pinned_base_of_r = (omega arith, omega arith)
 
-  pub pinned_base_of_w : (whole limit log outs n).bases 302 256
+  pub pinned_base_of_w : (whole limit log met n).bases 302 256
   pinned_base_of_w = (omega arith, omega arith)
 
-  pub pinned_base_too_old : (whole limit log outs n).bases 302 0 → ⊥
+  pub pinned_base_too_old : (whole limit log met n).bases 302 0 → ⊥
   pinned_base_too_old b = let e = b.1 in omega arith
 
-  pub pinned_base_last : (whole limit log outs n).bases 256 0
+  pub pinned_base_last : (whole limit log met n).bases 256 0
   pinned_base_last = (omega arith, omega arith)
 
-  pub pinned_base_first_too_old : (whole limit log outs n).bases 257 0 → ⊥
+  pub pinned_base_first_too_old : (whole limit log met n).bases 257 0 → ⊥
   pinned_base_first_too_old b = let e = b.1 in omega arith
 
-  pub pinned_base_too_new : (whole limit log outs n).bases 2 3 → ⊥
+  pub pinned_base_too_new : (whole limit log met n).bases 2 3 → ⊥
   pinned_base_too_new b = let e = b.0 in omega arith
 
   -- after its 300 commits w starts at version 302 alone. (False if a start might fix an older version than its section saw.)
-  pub pinned_base_starts : length log ≡ 302 → (k : ℕ) → (whole limit log outs n).starts (max 301 (number 301 (ChangedAlone 1 301 302))) k → k ≡ 302
+  pub pinned_base_starts : length log ≡ 302 → (k : ℕ) → (whole limit log met n).starts (max 301 (number 301 (ChangedAlone 1 301 302))) k → k ≡ 302
   pinned_base_starts l k s = let e = s.0 in let f = s.1 in omega arith
 
 module _ {K D C Q X Y : Type 0} (J : Judges K D C Q X Y) (catalog : K) where
   -- r: `2 rows .. at 2 base 0`, by `answered` in its transaction, however long the log is by then. (False if a base had to be
   -- near the log's end.)
-  pub pinned_base_r : (log : List Commit) (outs : ℕ → List Outcome) (item : Item) (q : Q) (y : Y) (rows : List Row) → 2 ≤ length log → J.reads item (Asks q) → J.checks catalog q (Fine y) → J.answers catalog (view log 2 []) y rows → IsSorted row_order rows → Judged J (whole limit log outs 1) 1 2 (opened catalog 2 []) item (Rows 2 0 (J.columns y) rows) (opened catalog 2 [])
-  pinned_base_r log outs item q y rows long reads checks answers sorted = answered q y 2 0 [] _ rows reads checks (inl refl) (long, refl) (omega arith, omega arith) answers sorted refl refl
+  pub pinned_base_r : (log : List Commit) (met : ℕ → ℕ → ℕ → Type 0) (item : Item) (q : Q) (y : Y) (rows : List Row) → 2 ≤ length log → J.reads item (Asks q) → J.checks catalog q (Fine y) → J.answers catalog (view log 2 []) y (Listed rows) → Judged J (whole limit log met 1) 1 2 (opened catalog 2 []) item (Rows 2 0 (J.columns y) rows) (opened catalog 2 [])
+  pinned_base_r log met item q y rows long reads checks answers = answered q y (view_of 2 [] _) 0 rows reads checks (inl (record { under = refl; sees = (long, refl) })) answers (omega arith, omega arith) refl refl
 
   -- w: `301 rows .. at 302 base 256`, by `answered` at a start of its own. (False if a base had to be the version itself.)
-  pub pinned_base_w : (log : List Commit) (outs : ℕ → List Outcome) (item : Item) (q : Q) (y : Y) (rows : List Row) → length log ≡ 302 → J.reads item (Asks q) → J.checks catalog q (Fine y) → J.answers catalog (view log 302 []) y rows → IsSorted row_order rows → Judged J (whole limit log outs 2) 2 302 (closed catalog) item (Rows 302 256 (J.columns y) rows) (closed catalog)
-  pinned_base_w log outs item q y rows long reads checks answers sorted = answered q y 302 256 [] _ rows reads checks (inr (refl, (omega arith, omega arith, λ _. refl), refl)) (omega arith, refl) (omega arith, omega arith) answers sorted refl refl
+  pub pinned_base_w : (log : List Commit) (met : ℕ → ℕ → ℕ → Type 0) (item : Item) (q : Q) (y : Y) (rows : List Row) → length log ≡ 302 → J.reads item (Asks q) → J.checks catalog q (Fine y) → J.answers catalog (view log 302 []) y (Listed rows) → Judged J (whole limit log met 2) 2 302 (closed catalog) item (Rows 302 256 (J.columns y) rows) (closed catalog)
+  pinned_base_w log met item q y rows long reads checks answers = answered q y (view_of 302 [] _) 256 rows reads checks (inr (record { closed = refl; starts = (omega arith, omega arith, λ _. refl); unwritten = refl; sees = (omega arith, refl) })) answers (omega arith, omega arith) refl refl
 
 -- w's 255th change is commit 257, and the line and the number of the commit say so. (False if the parts were exchanged.)
 pub pinned_base_line : outcome_text (ChangedAlone 1 256 257) ≡ codes "changed 1 from 256 at 257\n"

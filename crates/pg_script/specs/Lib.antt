@@ -1,4 +1,4 @@
--- Scripts: `Layout`, `Statements`, `After`, `Script`, `Whole`. Transcripts: `Text`, `Judged`, `Session`, `Legal`. The code: `Passes`.
+-- Scripts: `Layout`, `Statements`, `After`, `Script`, `Whole`. Transcripts: `Text`, `Judged`, `Session`, `Legal`, `Exact`, `Fitting`. The code: `Passes`.
 pub mod Layout
 pub mod Statements
 pub mod After
@@ -9,3 +9,5 @@ pub mod Text
 pub mod Judged
 pub mod Session
 pub mod Legal
+pub mod Exact
+pub mod Fitting

@@ -1,8 +1,8 @@
 -- A legal session: the fold of the table over the items and outcomes of one section, over one log.
-use Rattle.std.specs.Prelude.{◌≡◌, ℕ, ◌+◌, ◌<◌, ◌≤◌, max, List, [], ◌∷◌, ◌++◌, length, take}
+use Rattle.std.specs.Prelude.{◌≡◌, ℕ, ◌+◌, ◌<◌, ◌≤◌, max, List, [], ◌∷◌, ◌++◌, length, take, Contains}
 use Rattle.std.specs.declared.option.Option.TheVariants.{Some, None}
 use Rattle.pg_value.specs.declared.write.Commit.{Commit}
-use Rattle.pg_value.specs.Log.{after, held, conflict}
+use Rattle.pg_value.specs.Log.{view, held, conflict}
 use Rattle.pg_script.specs.declared.script.Item.{Item}
 use Rattle.pg_script.specs.declared.outcome.Outcome.{Outcome}
 use Rattle.pg_script.specs.declared.outcome.Outcome.TheVariants.{Defined, Began, Changed, ChangedAlone, Committed, CommitEmpty, RolledBack, Rows, After, AtByte, AlreadyOpen, NotOpen, Duplicate, TooManyWrites, AtColumn, Conflict, LogFull}
@@ -67,19 +67,34 @@ NumbersWithin most seen (o ∷ os) = (number seen o ≤ most) × NumbersWithin m
 abbrev pub Logs : List Commit → ℕ → Commit → Type 0
 Logs log c commit = (front : List Commit) × (back : List Commit) × (log ≡ front ++ commit ∷ back) × (c ≡ length front + 1)
 
--- What an outcome of section n may rest on in a whole run: one log, whose first commits are the setup's, and the outcomes of each section.
+-- What an AFTER is judged by: the session m is found past its i-th item at a length of the log. Where the outcomes of all sections are known: there
+-- are so many, and the length holds their numbers (which begin at the setup's length; that much was seen).
+abbrev pub IsMet : (ℕ → List Outcome) → ℕ → ℕ → ℕ → Type 0
+IsMet outs m i at = (i ≤ length (outs m)) × NumbersWithin at 0 (take i (outs m))
+
+-- what a session notes of an AFTER that it met: the other session, how many of its items, and the length of the log then
+pub record Meeting : Type 0 where
+  pub session : ℕ
+  pub items : ℕ
+  pub at : ℕ
+
+-- where a session is judged alone: by what it noted
+abbrev pub IsNoted : List Meeting → ℕ → ℕ → ℕ → Type 0
+IsNoted meetings m i at = Contains meetings (record { session = m; items = i; at = at })
+
+-- What an outcome of section n may rest on in a whole run: one log, whose first commits are the setup's, and what an AFTER is judged by.
 -- A start fixes a version that holds all that the section has seen, and in the setup just that.
 -- A conflict is over some prefix of the log, a full log over a prefix at least as long as what was seen and as the version.
--- An AFTER is met at a length that holds the numbers of the other session's first i outcomes (which begin at the setup's length; that much was seen).
-abbrev pub whole : ℕ → List Commit → (ℕ → List Outcome) → ℕ → History
-whole limit log outs n = record {
+-- An AFTER is met at a length of the log that holds what was seen.
+abbrev pub whole : ℕ → List Commit → (ℕ → ℕ → ℕ → Type 0) → ℕ → History
+whole limit log met n = record {
   starts = λ seen k. (seen ≤ k) × (k ≤ length log) × (n ≡ 0 → k ≡ seen);
   defines = λ seen at. at ≡ seen;
-  sees = λ k t. (k ≤ length log) × (t ≡ after log k);
+  sees = λ k ws t. (k ≤ length log) × (t ≡ view log k ws);
   logs = λ c commit. Logs log c commit;
   conflicts = λ k ws w j. (j ≤ length log) × (conflict (take j log) k ws ≡ Some (w, j));
   fills = λ seen k ws room. (p : ℕ) × (k ≤ p) × (seen ≤ p) × (p ≤ length log) × (conflict (take p log) k ws ≡ None) × (room ≡ held (take p log)) × (limit < room + length ws);
-  meets = λ seen m i at. (seen ≤ at) × (at ≤ length log) × (i ≤ length (outs m)) × NumbersWithin at 0 (take i (outs m));
+  meets = λ seen m i at. (seen ≤ at) × (at ≤ length log) × met m i at;
   bases = λ k base. (base ≤ k) × (k ≤ base + 256);
 }
 

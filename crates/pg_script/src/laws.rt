@@ -3,7 +3,7 @@ ghost use Rattle.std.specs.Prelude.{◌≡◌, ℕ, List};
 ghost use Rattle.pg_script.specs.declared.fault.ScriptKind.{ScriptKind};
 ghost use Rattle.pg_script.specs.declared.script.Script.{Script};
 ghost use Rattle.pg_script.specs.Script.{IsScript, IsScriptFault};
-ghost use Rattle.pg_script.specs.Whole.{ScriptsAreWhole};
+ghost use Rattle.pg_script.specs.Whole.{ScriptsAreWhole, ScriptsWaitEarlier};
 
 /// The law that an input has one answer: it is at most one script, or has at most one fault, which is a line and a kind,
 /// and never both.
@@ -13,8 +13,13 @@ pub fn one_answer()
     ensures one_fault { (bytes : List ℕ) (l m : ℕ) (j k : ScriptKind) → IsScriptFault bytes l j → IsScriptFault bytes m k → (l ≡ m) × (j ≡ k) }
 {}
 
-/// The law that in every script each statement is a part of the text, which is a text itself, and each turn of the order
-/// is a session's.
+/// The law that in every script each statement is a part of the text, which is a text itself, each turn of the order is a
+/// session's, and no section has more than 100,000 items.
 pub fn scripts_are_whole()
     ensures { ScriptsAreWhole }
+{}
+
+/// The law that in every script each AFTER waits for an earlier session, and for one of its items.
+pub fn waits_are_earlier()
+    ensures { ScriptsWaitEarlier }
 {}

@@ -19,7 +19,7 @@ mod transcript;
 mod turns;
 
 pub use fault::{ScriptFault, ScriptKind};
-pub use laws::{one_answer, scripts_are_whole};
+pub use laws::{one_answer, scripts_are_whole, waits_are_earlier};
 pub use outcome::{ColumnFault, FaultKind, Outcome};
 pub use printing::print;
 pub use script::{Item, Script, Section};

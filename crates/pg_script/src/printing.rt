@@ -103,9 +103,9 @@ impl Printer {
         ensures { OnOk result (self.new ≡ self.old ++ peak_text peak.now) }
     {
         self.text.push_str("@peak kept ")?;
-        self.text.push_number(self.alloc, peak.0)?;
+        self.text.push_number(peak.0)?;
         self.text.push_str(" pins ")?;
-        self.text.push_number(self.alloc, peak.1)?;
+        self.text.push_number(peak.1)?;
         self.text.push_str("\n")
     }
 }

@@ -3,28 +3,33 @@ use Rattle.std.proofs.Common.{◌≡◌, ◌≢◌, ◌==◌, ℕ, ◌+◌, ◌<
 use Rattle.std.proofs.lemmas.List.{take_more, get_or-set_same, get_or-set_other, length-set, get_or_past, get_or_append_left, get_or-append-add}
 use Rattle.std.proofs.lemmas.Option.{none-some, same_Some, slice_get-get_or, slice_get_within, get_or_from_slice_get, slice_get_past}
 use Rattle.std.proofs.lemmas.Bool.{cases_eq, cases_lt, eq-eqb, ne_eqb}
-use Rattle.std.specs.Prelude.{slice_get, is_none, ◌&&◌, ◌||◌}
+use Rattle.std.specs.Prelude.{slice_get}
 use Rattle.std.specs.Option.{unwrap_or}
 use Rattle.std.specs.declared.option.Option.TheVariants.{Some, None}
 use Rattle.pg_value.specs.declared.write.Commit.{Commit}
+use Rattle.pg_value.specs.declared.shape.Shapes.{Shapes}
+use Rattle.pg_value.specs.Writes.{Limited}
 use Rattle.pg_value.specs.Log.{held, IsLawful}
+use Rattle.pg_keyed.specs.Lists.{Each}
 use Rattle.pg_script.specs.declared.script.Item.{Item}
 use Rattle.pg_script.specs.declared.script.Section.{Section}
 use Rattle.pg_script.specs.declared.script.Script.{Script}
 use Rattle.pg_script.specs.declared.outcome.Outcome.{Outcome}
 use Rattle.pg_script.specs.Judged.{Judges, Session, Open, Judged}
-use Rattle.pg_script.specs.Session.{number, printed, all_printed, raised, NumbersWithin, whole, Runs}
+use Rattle.pg_script.specs.Session.{number, printed, all_printed, raised, NumbersWithin, IsMet, whole, Runs}
 use Rattle.pg_script.specs.Legal.{no_section, items_of, places, setup_of}
-use Rattle.pg_session.specs.Core.{pin_of}
-use Rattle.pg_session.specs.Stepped.{World, Run, no_run, now, outs_of, session_at, first_seen, seen_at, next_item, moved, acts, base_of, follows_start, is_definition}
+use Rattle.pg_session.specs.declared.event.Event.{Event}
+use Rattle.pg_session.specs.declared.event.Event.TheVariants as events
+use Rattle.pg_session.specs.Core.{Core, pin_of, after_redefine, Steps}
+use Rattle.pg_session.specs.Stepped.{World, Run, no_run, now, outs_of, session_at, first_seen, seen_at, next_item, base_of, events_of, leaving, marking, AfterItem, is_last, item_events}
 use Rattle.pg_session.proofs.LogLaws.{lawful_more, held_append}
 use Rattle.pg_session.proofs.Numbers.{raised_within, numbers_up, numbers_more, number_within, raised_more, printed_more}
 use Rattle.pg_session.proofs.Grows.{GoOn, whole_grows, runs_within, runs_more}
-use Rattle.pg_session.proofs.Within.{judged_within}
-use Rattle.pg_session.proofs.Acts.{acts_log, acts_near, acts_peak, acts_pin_other, acts_length, acts_pin_end, acts_pin_start, acts_pin_on}
-use Rattle.pg_session.proofs.OneItem.{Added, nothing, one, judged_added, Opens, shut, goes_on, opens, judged_opens, judged_catalog, printed_number}
+use Rattle.pg_session.proofs.Within.{adds, judged_within}
+use Rattle.pg_session.proofs.ItemCore.{Keeps, IsOwn, outcome_log, rest_quiet, after_cases, item_keeps, ends_pin, start_pin, still_pin}
+use Rattle.pg_session.proofs.OneItem.{Added, nothing, one, Says, judged_says, Opens, rests, shut, goes_on, opens, judged_opens, judged_catalog, printed_number}
 use Rattle.pg_session.proofs.LongerLogs.{Ready, now_whole}
-use Rattle.pg_session.proofs.BetweenTurns.{first_session, IsPinned, SoFar, InSetup}
+use Rattle.pg_session.proofs.BetweenTurns.{first_session, moved, IsPinned, SoFar, InSetup}
 
 pub take_none : {A : Type 0} (xs : List A) → take 0 xs ≡ []
 take_none [] = refl
@@ -39,9 +44,9 @@ has_section script n k x h = elim (cases_lt n (length script.sections)) [
 
 lawful_added : (limit n : ℕ) (log added : List Commit) (o : Outcome) → IsLawful limit log → Added limit n log added o → IsLawful limit (log ++ added)
 lawful_added limit n log added o g (nothing e f) = subst (IsLawful limit) (sym (ap (λ l. log ++ l) e ∙ append-nil log)) g
-lawful_added limit n log added o g (one c e f p le some free room) = subst (λ l. IsLawful limit (log ++ l)) (sym e) record {
-  each = lawful_more [] log c g.each le some free;
-  within = let h : held (log ++ c ∷ []) ≡ held log + held (c ∷ []) = held_append log (c ∷ []) in omega (arith, h, room);
+lawful_added limit n log added o g (one c e f p t) = subst (λ l. IsLawful limit (log ++ l)) (sym e) record {
+  each = lawful_more [] log c g.each t.before t.some t.free;
+  within = let h : held (log ++ c ∷ []) ≡ held log + held (c ∷ []) = held_append log (c ∷ []) in omega (arith, h, t.room);
 }
 
 places_append : (m at : ℕ) (xs ys : List Commit) → places m at (xs ++ ys) ≡ places m at xs ++ places m (at + length xs) ys
@@ -55,35 +60,45 @@ places_append m at (c ∷ cs) ys =
 
 places_self : (limit n : ℕ) (log added : List Commit) (o : Outcome) → Added limit n log added o → places n (1 + length log) added ≡ printed o
 places_self limit n log added o (nothing e f) = ap (places n (1 + length log)) e ∙ sym f
-places_self limit n log added o (one c e f p le some free room) = ap (places n (1 + length log)) e ∙ ap (λ b. cond b ((1 + length log) ∷ []) []) (eq-eqb c.session n f) ∙ ap (λ x. x ∷ []) (omega arith) ∙ sym p
+places_self limit n log added o (one c e f p t) = ap (places n (1 + length log)) e ∙ ap (λ b. cond b ((1 + length log) ∷ []) []) (eq-eqb c.session n f) ∙ ap (λ x. x ∷ []) (omega arith) ∙ sym p
 
 places_other : (limit n m : ℕ) (log added : List Commit) (o : Outcome) → (m ≡ n → ⊥) → Added limit n log added o → places m (1 + length log) added ≡ []
 places_other limit n m log added o d (nothing e f) = ap (places m (1 + length log)) e
-places_other limit n m log added o d (one c e f p le some free room) = ap (places m (1 + length log)) e ∙ ap (λ b. cond b ((1 + length log) ∷ []) []) (ne_eqb c.session m (λ x. d (sym x ∙ f)))
+places_other limit n m log added o d (one c e f p t) = ap (places m (1 + length log)) e ∙ ap (λ b. cond b ((1 + length log) ∷ []) []) (ne_eqb c.session m (λ x. d (sym x ∙ f)))
 
 first_low : {K D C Q X Y : Type 0} (J : Judges K D C Q X Y) (empty : K) (limit : ℕ) (script : Script) (w : World K) (m : ℕ) → SoFar J empty limit script w → first_seen w.core.log m ≤ length w.core.log
 first_low J empty limit script w m g = elim (m == 0) as (λ b. cond b 0 (setup_of w.core.log) ≤ length w.core.log) [ true ↦ omega arith | false ↦ g.setup_low ]
 
-module _ {K D C Q X Y : Type 0} (J : Judges K D C Q X Y) (empty : K) (limit : ℕ) (script : Script) (w : World K) (n : ℕ) (item : Item) (o : Outcome) (added : List Commit) (s' : Session K)
-    (g : SoFar J empty limit script w) (next : next_item script w n ≡ Some item) (judged : Judged J (now limit w.core (outs_of w.runs) added n) n (seen_at w n) (session_at w n) item o s') (as_printed : length added ≡ length (printed o))
+module _ {K D C Q X Y : Type 0} (J : Judges K D C Q X Y) (empty : K) (limit : ℕ) (script : Script) (w : World K) (n : ℕ) (item : Item) (o : Outcome) (writes : Limited) (s' : Session K) (core' : Core)
+    (g : SoFar J empty limit script w) (next : next_item script w n ≡ Some item) (judged : Judged J (now limit w.core (outs_of w.runs) writes n) n (seen_at w n) (session_at w n) item o s')
+    (after : AfterItem (J.shapes s'.catalog) limit w.core (item_events script w n writes o s'.open_) o core')
     (exact : n ≡ 0 → length w.core.log ≡ seen_at w n) where
   abbrev w' : World K
-  w' = moved script w n o added s'
+  w' = moved w n o core' s'
+
+  abbrev added : List Commit
+  added = adds n writes o
 
   abbrev L : List Commit
   L = w.core.log ++ added
 
-  abbrev starts_here : Bool
-  starts_here = is_none (get_or w.runs n no_run).open_ && follows_start o
+  abbrev Shaped : Shapes
+  Shaped = J.shapes s'.catalog
 
-  abbrev defines_here : Bool
-  defines_here = is_definition o
+  abbrev last : Bool
+  last = is_last script w n
 
-  abbrev ends_here : Bool
-  ends_here = is_none s'.open_ || (length (outs_of w.runs n) + 1 == length (items_of script n))
+  abbrev own_events : List Event
+  own_events = events_of n (session_at w n).open_ writes o
+
+  says : Says limit n w.core.log writes o
+  says = judged_says J limit w writes n (seen_at w n) (session_at w n) item o s' judged
 
   log_is : w'.core.log ≡ L
-  log_is = acts_log w.core n starts_here added defines_here ends_here
+  log_is = outcome_log Shaped limit w.core core' n writes (leaving n s'.open_ last ++ marking n) (rest_quiet Shaped limit n s'.open_ last) (session_at w n).open_ o says.1 after
+
+  keeps : Keeps n w.core core'
+  keeps = item_keeps Shaped limit w.core core' n (session_at w n).open_ writes o s'.open_ last after
 
   section : n < length script.sections
   section = has_section script n (length (outs_of w.runs n)) item next
@@ -125,17 +140,17 @@ module _ {K D C Q X Y : Type 0} (J : Judges K D C Q X Y) (empty : K) (limit : �
     from_low k (inr p) = omega (arith, p.1)
 
   added_is : Added limit n w.core.log added o
-  added_is = judged_added J limit w added n (seen_at w n) (session_at w n) item o s' as_printed judged
+  added_is = says.0
 
   -- the table's case, over the longer log
-  whole_judged : Judged J (whole limit L (outs_of w'.runs) n) n (seen_at w n) (session_at w n) item o s'
-  whole_judged = judged_within (now_whole limit w added (outs_of w'.runs) n (seen_at w n) (session_at w n) go ready) J item o s' judged
+  whole_judged : Judged J (whole limit L (IsMet (outs_of w'.runs)) n) n (seen_at w n) (session_at w n) item o s'
+  whole_judged = judged_within (now_whole limit w writes (outs_of w'.runs) n (seen_at w n) (session_at w n) o go ready) J item s' judged
 
   log_longer : length w.core.log ≤ length L
   log_longer = omega (arith, length-append w.core.log added)
 
   number_low : number (seen_at w n) o ≤ length L
-  number_low = number_within J limit L (outs_of w'.runs) n (seen_at w n) (session_at w n) (omega (arith, ready.low, log_longer)) (λ t e. let h = (g.pins n).old t e in omega (arith, h, log_longer)) item o s' whole_judged
+  number_low = number_within J limit L (IsMet (outs_of w'.runs)) n (seen_at w n) (session_at w n) (omega (arith, ready.low, log_longer)) (λ t e. let h = (g.pins n).old t e in omega (arith, h, log_longer)) item o s' whole_judged
 
   heard' : (m : ℕ) → NumbersWithin (length L) 0 (outs_of w'.runs m)
   heard' m = let up = numbers_up (length w.core.log) (length L) 0 (outs_of w.runs m) log_longer (g.heard m) in elim (cases_eq m n) [
@@ -164,35 +179,69 @@ module _ {K D C Q X Y : Type 0} (J : Judges K D C Q X Y) (empty : K) (limit : �
   abbrev Left : ℕ → Type 0
   Left k = k < length (items_of script n)
 
-  pin_goes : ends_here ≡ true → pin_of w'.core n ≡ None
-  pin_goes e = ap (λ b. pin_of (acts w.core n starts_here added defines_here b) n) e ∙ acts_pin_end w.core n starts_here added defines_here seat
-
-  not_last : length (outs_of w.runs n) + 1 < length (items_of script n) → (length (outs_of w.runs n) + 1 == length (items_of script n)) ≡ false
+  not_last : length (outs_of w.runs n) + 1 < length (items_of script n) → last ≡ false
   not_last h = ne_eqb _ _ (λ e. omega (arith, h, e))
 
-  pins_self : Opens J limit w added n (seen_at w n) (session_at w n) s' o → IsPinned L (pin_of w'.core n) s'.open_ (Left (length (outs_of w.runs n) + 1))
-  pins_self (shut e) = record {
-    old = λ t p. absurd (none-some t (sym e ∙ p));
-    free = λ p. pin_goes (ap (λ x. is_none x || (length (outs_of w.runs n) + 1 == length (items_of script n))) p);
-    near = λ t p q. absurd (none-some t (sym e ∙ p));
+  -- the events, where those of the outcome and those behind it are known
+  events_are : (es rest : List Event) → own_events ≡ es → leaving n s'.open_ last ≡ rest
+      → Steps Shaped limit w.core (es ++ (rest ++ marking n)) core' ⊎ ((core' ≡ after_redefine w.core) × (es ≡ []))
+  events_are es rest e f = elim (after_cases Shaped limit w.core core' (own_events ++ (leaving n s'.open_ last ++ marking n)) o after) [
+    | inl x ↦ inl (subst (λ y. Steps Shaped limit w.core (y ++ (rest ++ marking n)) core') e (subst (λ y. Steps Shaped limit w.core (own_events ++ (y ++ marking n)) core') f x))
+    | inr x ↦ inr (x.0, sym e ∙ x.1 n (session_at w n).open_ writes)
+  ]
+
+  left_shut : s'.open_ ≡ None → leaving n s'.open_ last ≡ []
+  left_shut q = ap (λ z. leaving n z last) q
+
+  left_open : (t : Open) → s'.open_ ≡ Some t → last ≡ false → leaving n s'.open_ last ≡ []
+  left_open t q f = ap (λ z. leaving n z last) q ∙ ap (λ b. cond b (events.Release n ∷ []) []) f
+
+  -- where the outcome has no event the pin stays
+  pin_still : own_events ≡ [] → leaving n s'.open_ last ≡ [] → pin_of w'.core n ≡ pin_of w.core n
+  pin_still e f = elim (events_are [] [] e f) [
+    | inl x ↦ still_pin Shaped limit w.core core' n (inl x)
+    | inr x ↦ still_pin Shaped limit w.core core' n (inr x.0)
+  ]
+
+  not_nil : (front : List Event) → front ++ events.Release n ∷ [] ≡ [] → ⊥
+  not_nil [] h = omega (arith, ap length h)
+  not_nil (x ∷ front) h = omega (arith, ap length h)
+
+  pin_goes : (front : List Event) → Each (IsOwn n) front → own_events ≡ front ++ events.Release n ∷ [] → leaving n s'.open_ last ≡ [] → pin_of w'.core n ≡ None
+  pin_goes front own e f = elim (events_are (front ++ events.Release n ∷ []) [] e f) [
+    | inl x ↦ ends_pin Shaped limit w.core core' n front own seat x
+    | inr x ↦ absurd (not_nil front x.1)
+  ]
+
+  pin_starts : own_events ≡ events.Pin n ∷ [] → leaving n s'.open_ last ≡ [] → pin_of w'.core n ≡ Some w.core.base
+  pin_starts e f = elim (events_are (events.Pin n ∷ []) [] e f) [
+    | inl x ↦ start_pin Shaped limit w.core core' n seat x
+    | inr x ↦ absurd (omega (arith, ap length x.1))
+  ]
+
+  pins_shut : s'.open_ ≡ None → pin_of w'.core n ≡ None → IsPinned L (pin_of w'.core n) s'.open_ (Left (length (outs_of w.runs n) + 1))
+  pins_shut e p = record {
+    old = λ t x. absurd (none-some t (sym e ∙ x));
+    free = λ x. p;
+    near = λ t x q. absurd (none-some t (sym e ∙ x));
   }
-  pins_self (goes_on t t' p q f) = record {
+
+  pins_self : Opens J limit w writes n (seen_at w n) (session_at w n) s' o → IsPinned L (pin_of w'.core n) s'.open_ (Left (length (outs_of w.runs n) + 1))
+  pins_self (rests p q ev) = pins_shut q (pin_still ev (left_shut q) ∙ (g.pins n).free p)
+  pins_self (shut front q own ev) = pins_shut q (pin_goes front own ev (left_shut q))
+  pins_self (goes_on t t' p q f ev) = record {
     old = λ x e. let h = (g.pins n).old t p in let v : t'.from ≡ x.from = ap (λ z. z.from) (same_Some t' x (sym q ∙ e)) in omega (arith, h, f, v, log_longer);
     free = λ e. absurd (none-some t' (sym e ∙ q));
     near = λ x e left. let b = (g.pins n).near t p unfinished in
         let v : t'.from ≡ x.from = ap (λ z. z.from) (same_Some t' x (sym q ∙ e)) in
-        let st : starts_here ≡ false = ap (λ z. is_none z && follows_start o) p in
-        let en : ends_here ≡ false = ap (λ z. is_none z || (length (outs_of w.runs n) + 1 == length (items_of script n))) q ∙ not_last left in
-        (b.0, ap (λ z. pin_of (acts w.core n z added defines_here ends_here) n) st ∙ ap (λ z. pin_of (acts w.core n false added defines_here z) n) en ∙ acts_pin_on w.core n added defines_here ∙ b.1, omega (arith, b.2, f, v), omega (arith, b.3, f, v));
+        (b.0, pin_still ev (left_open t' q (not_last left)) ∙ b.1, omega (arith, b.2, f, v), omega (arith, b.3, f, v));
   }
-  pins_self (opens t' p q f h) = record {
+  pins_self (opens t' p q f ev) = record {
     old = λ x e. let v : t'.from ≡ x.from = ap (λ z. z.from) (same_Some t' x (sym q ∙ e)) in omega (arith, f, v, log_longer);
     free = λ e. absurd (none-some t' (sym e ∙ q));
     near = λ x e left.
         let v : t'.from ≡ x.from = ap (λ z. z.from) (same_Some t' x (sym q ∙ e)) in
-        let st : starts_here ≡ true = ap (λ z. is_none z && follows_start o) p ∙ h in
-        let en : ends_here ≡ false = ap (λ z. is_none z || (length (outs_of w.runs n) + 1 == length (items_of script n))) q ∙ not_last left in
-        (w.core.base, ap (λ z. pin_of (acts w.core n z added defines_here ends_here) n) st ∙ ap (λ z. pin_of (acts w.core n true added defines_here z) n) en ∙ acts_pin_start w.core n added defines_here seat, omega (arith, f, v, g.near.low), omega (arith, f, v, g.near.high));
+        (w.core.base, pin_starts ev (left_open t' q (not_last left)), omega (arith, f, v, g.near.low), omega (arith, f, v, g.near.high));
   }
 
   pins_are : (m : ℕ) → IsPinned L (pin_of w'.core m) (get_or w'.runs m no_run).open_ (length (outs_of w'.runs m) < length (items_of script m))
@@ -200,16 +249,16 @@ module _ {K D C Q X Y : Type 0} (J : Judges K D C Q X Y) (empty : K) (limit : �
     | inl e ↦ subst (λ (r : Run). IsPinned L (pin_of w'.core m) r.open_ (length r.outs < length (items_of script m))) (sym (run_self m e))
         (subst (λ k. IsPinned L (pin_of w'.core k) s'.open_ (length (outs_of w.runs n ++ o ∷ []) < length (items_of script k))) (sym e)
         (subst (λ k. IsPinned L (pin_of w'.core n) s'.open_ (k < length (items_of script n))) (sym (length-append (outs_of w.runs n) (o ∷ [])))
-        (pins_self (judged_opens J limit w added n (seen_at w n) (session_at w n) item o s' judged))))
+        (pins_self (judged_opens J limit w writes n (seen_at w n) (session_at w n) item o s' judged))))
     | inr d ↦ subst (λ (r : Run). IsPinned L (pin_of w'.core m) r.open_ (length r.outs < length (items_of script m))) (sym (run_other m d))
-        (subst (λ p. IsPinned L p (session_at w m).open_ (length (outs_of w.runs m) < length (items_of script m))) (sym (acts_pin_other w.core n starts_here added defines_here ends_here m d)) (longer_pin m (g.pins m)))
+        (subst (λ p. IsPinned L p (session_at w m).open_ (length (outs_of w.runs m) < length (items_of script m))) (sym (keeps.others m d)) (longer_pin m (g.pins m)))
   ] where
     longer_pin : (m : ℕ) → IsPinned w.core.log (pin_of w.core m) (session_at w m).open_ (length (outs_of w.runs m) < length (items_of script m)) → IsPinned L (pin_of w.core m) (session_at w m).open_ (length (outs_of w.runs m) < length (items_of script m))
     longer_pin m p = record { old = λ t e. let h = p.old t e in omega (arith, h, log_longer); free = p.free; near = p.near }
 
   -- the runs of a section, as they are now seen
   abbrev RunsAt : List Commit → (ℕ → List Outcome) → ℕ → ℕ → Session K → List Item → List Outcome → Session K → Type 0
-  RunsAt log outs m seen s is os t = Runs J (whole limit log outs m) m seen s is os t
+  RunsAt log outs m seen s is os t = Runs J (whole limit log (IsMet outs) m) m seen s is os t
 
   items_more : take (length (outs_of w.runs n ++ o ∷ [])) (items_of script n) ≡ take (length (outs_of w.runs n)) (items_of script n) ++ item ∷ []
   items_more = ap (λ k. take k (items_of script n)) (length-append (outs_of w.runs n) (o ∷ []))
@@ -217,7 +266,7 @@ module _ {K D C Q X Y : Type 0} (J : Judges K D C Q X Y) (empty : K) (limit : �
       ∙ ap (λ x. take (length (outs_of w.runs n)) (items_of script n) ++ x ∷ []) (get_or_from_slice_get (items_of script n) (length (outs_of w.runs n)) item item next)
 
   runs_grown : (m : ℕ) → RunsAt L (outs_of w'.runs) m (first_seen w.core.log m) (first_session empty w m) (take (length (outs_of w.runs m)) (items_of script m)) (outs_of w.runs m) (session_at w m)
-  runs_grown m = runs_within J m (whole limit w.core.log (outs_of w.runs) m) (whole limit L (outs_of w'.runs) m) (λ seen s. whole_grows limit w.core.log added (outs_of w.runs) (outs_of w'.runs) m seen s go)
+  runs_grown m = runs_within J m (whole limit w.core.log (IsMet (outs_of w.runs)) m) (whole limit L (IsMet (outs_of w'.runs)) m) (λ seen s o. whole_grows limit w.core.log added (outs_of w.runs) (outs_of w'.runs) m seen s o go)
       (first_seen w.core.log m) (first_session empty w m) (take (length (outs_of w.runs m)) (items_of script m)) (outs_of w.runs m) (session_at w m) (g.runs m)
 
   -- section n with its new outcome
@@ -225,17 +274,17 @@ module _ {K D C Q X Y : Type 0} (J : Judges K D C Q X Y) (empty : K) (limit : �
   runs_self =
       subst (λ (r : Run). RunsAt L (outs_of w'.runs) n (first_seen w.core.log n) (first_session empty w n) (take (length r.outs) (items_of script n)) r.outs (record { open_ = r.open_; catalog = s'.catalog })) (sym (run_self n refl))
       (subst (λ is. RunsAt L (outs_of w'.runs) n (first_seen w.core.log n) (first_session empty w n) is (outs_of w.runs n ++ o ∷ []) s') (sym items_more)
-      (runs_more J n (whole limit L (outs_of w'.runs) n) (first_seen w.core.log n) (first_session empty w n) (take (length (outs_of w.runs n)) (items_of script n)) (outs_of w.runs n) (session_at w n) item o s' (runs_grown n) whole_judged))
+      (runs_more J n (whole limit L (IsMet (outs_of w'.runs)) n) (first_seen w.core.log n) (first_session empty w n) (take (length (outs_of w.runs n)) (items_of script n)) (outs_of w.runs n) (session_at w n) item o s' (runs_grown n) whole_judged))
 
   -- all but the runs and the setup's part
   pub kept_so : ((m : ℕ) → RunsAt L (outs_of w'.runs) m (first_seen L m) (first_session empty w' m) (take (length (outs_of w'.runs m)) (items_of script m)) (outs_of w'.runs m) (session_at w' m))
       → setup_of L ≤ length L → ((c : ℕ) (commit : Commit) → slice_get L c ≡ Some commit → setup_of L ≤ c → commit.session ≢ 0) → SoFar J empty limit script w'
   kept_so runs low first = record {
     lawful = subst (IsLawful limit) (sym log_is) (lawful_added limit n w.core.log added o g.lawful added_is);
-    near = acts_near w.core n starts_here added defines_here ends_here g.near;
-    peak = acts_peak w.core n starts_here added defines_here ends_here g.peak;
+    near = keeps.near g.near;
+    peak = keeps.peak g.peak;
     as_many = length-set w.runs n _ ∙ g.as_many;
-    seats = omega (arith, g.seats, acts_length w.core n starts_here added defines_here ends_here);
+    seats = omega (arith, g.seats, keeps.seats);
     heard = λ m. subst (λ l. NumbersWithin (length l) 0 (outs_of w'.runs m)) (sym log_is) (heard' m);
     fits = fits';
     runs = λ m. subst (λ l. RunsAt l (outs_of w'.runs) m (first_seen l m) (first_session empty w' m) (take (length (outs_of w'.runs m)) (items_of script m)) (outs_of w'.runs m) (session_at w' m)) (sym log_is) (runs m);
@@ -257,7 +306,7 @@ module _ {K D C Q X Y : Type 0} (J : Judges K D C Q X Y) (empty : K) (limit : �
       let b = slice_get_within L c commit h in
       let q : length L ≡ length w.core.log = ap length (ap (λ l. w.core.log ++ l) e ∙ append-nil w.core.log) in
       absurd (omega (arith, b, q, le))
-  new_one c commit h le (one x e f p low some free room) =
+  new_one c commit h le (one x e f p t) =
       let b = slice_get_within L c commit h in
       let q : length L ≡ length w.core.log + 1 = ap (λ l. length (w.core.log ++ l)) e ∙ length-append w.core.log (x ∷ []) in
       let at : c ≡ length w.core.log + 0 = omega (arith, b, q, le) in
@@ -271,7 +320,7 @@ module _ {K D C Q X Y : Type 0} (J : Judges K D C Q X Y) (empty : K) (limit : �
   ]
 
   catalog_same : (n ≡ 0 → ⊥) → w.catalog ≡ s'.catalog
-  catalog_same z = sym (judged_catalog J limit w added n (seen_at w n) (session_at w n) item o s' z judged)
+  catalog_same z = sym (judged_catalog J limit w writes n (seen_at w n) (session_at w n) item o s' z judged)
 
   session_runs : (n ≡ 0 → ⊥) → (m : ℕ) → RunsAt L (outs_of w'.runs) m (first_seen L m) (first_session empty w' m) (take (length (outs_of w'.runs m)) (items_of script m)) (outs_of w'.runs m) (session_at w' m)
   session_runs z m =
@@ -286,6 +335,12 @@ module _ {K D C Q X Y : Type 0} (J : Judges K D C Q X Y) (empty : K) (limit : �
   pub session_kept : (n ≡ 0 → ⊥) → SoFar J empty limit script w'
   session_kept z = kept_so (session_runs z) (omega (arith, g.setup_low, setup_same z, log_longer)) (first_kept z)
 
+  as_printed : length added ≡ length (printed o)
+  as_printed = printed_long added_is where
+    printed_long : Added limit n w.core.log added o → length added ≡ length (printed o)
+    printed_long (nothing e f) = ap length e ∙ sym (ap length f)
+    printed_long (one c e f p t) = ap length e ∙ sym (ap length p)
+
   -- A TURN OF THE SETUP
   all_added : n ≡ 0 → setup_of w.core.log ≡ length w.core.log → setup_of L ≡ length L
   all_added z a =
@@ -298,7 +353,7 @@ module _ {K D C Q X Y : Type 0} (J : Judges K D C Q X Y) (empty : K) (limit : �
 
   number_exact : length w.core.log ≡ seen_at w n → Added limit n w.core.log added o → length L ≡ max (seen_at w n) (number (seen_at w n) o)
   number_exact x (nothing e f) = let q : length L ≡ length w.core.log = ap length (ap (λ l. w.core.log ++ l) e ∙ append-nil w.core.log) in omega (arith, q, x, number_low)
-  number_exact x (one c e f p low some free room) =
+  number_exact x (one c e f p t) =
       let q : length L ≡ length w.core.log + 1 = ap (λ l. length (w.core.log ++ l)) e ∙ length-append w.core.log (c ∷ []) in
       let m : number (seen_at w n) o ≡ length w.core.log + 1 = printed_number (seen_at w n) (length w.core.log + 1) o p in
       omega (arith, q, x, m)

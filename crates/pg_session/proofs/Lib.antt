@@ -1,10 +1,14 @@
-pub mod Acts
 pub mod BetweenTurns
 pub mod Grows
+pub mod ItemCore
 pub mod KeepsLegal
+pub mod LogFits
 pub mod LogLaws
 pub mod LongerLogs
+pub mod Noted
 pub mod Numbers
 pub mod OneItem
+pub mod OneText
 pub mod SteppedLegal
+pub mod Trials
 pub mod Within

@@ -6,7 +6,7 @@ use Rattle.pg_value.specs.declared.write.Commit.{Commit}
 use Rattle.pg_script.specs.declared.script.Item.{Item}
 use Rattle.pg_script.specs.declared.outcome.Outcome.{Outcome}
 use Rattle.pg_script.specs.declared.outcome.Outcome.TheVariants.{Defined, Began, Changed, ChangedAlone, Committed, CommitEmpty, RolledBack, Rows, After, AtByte, AlreadyOpen, NotOpen, Duplicate, TooManyWrites, AtColumn, Conflict, LogFull}
-use Rattle.pg_script.specs.Judged.{Judges, Session, Open, Refusal, IsDuplicate, IsTooMany, IsAtColumn, refused, Judged, Under, Ends, logged, conflicted, filled, unread, already_open, begun, commit_not_open, rollback_not_open, rolled_back, commit_empty, committed, defines_in_session, defines_in_transaction, define_fault, defined, change_fault, change_stopped, changed, changed_none, changed_alone, query_fault, answered, waited}
+use Rattle.pg_script.specs.Judged.{Judges, Session, Open, Refusal, IsDuplicate, IsTooMany, IsAtColumn, refused, Judged, View, WorksOn, Ends, logged, conflicted, filled, unread, already_open, begun, commit_not_open, rollback_not_open, rolled_back, commit_empty, committed, defines_in_session, defines_in_transaction, define_fault, defined, change_fault, change_stopped, changed, changed_none, changed_alone, query_fault, answered, waited}
 use Rattle.pg_script.specs.Session.{number, printed, all_printed, raised, NumbersWithin, Logs, whole}
 
 -- a number does not grow past a bound where what was seen is lower
@@ -67,20 +67,20 @@ refused_number seen k (IsTooMany row) = refl
 refused_number seen k (IsAtColumn kind row column) = refl
 
 -- what is answered has a number within the log
-module _ {K D C Q X Y : Type 0} (J : Judges K D C Q X Y) (limit : ℕ) (log : List Commit) (outs : ℕ → List Outcome) (n seen : ℕ) (s : Session K) (low : seen ≤ length log) (opened : (t : Open) → s.open_ ≡ Some t → t.from ≤ length log) where
+module _ {K D C Q X Y : Type 0} (J : Judges K D C Q X Y) (limit : ℕ) (log : List Commit) (met : ℕ → ℕ → ℕ → Type 0) (n seen : ℕ) (s : Session K) (low : seen ≤ length log) (opened : (t : Open) → s.open_ ≡ Some t → t.from ≤ length log) where
   same : (o p : Outcome) → o ≡ p → number seen p ≤ length log → number seen o ≤ length log
   same o p e h = subst (λ q. number seen q ≤ length log) (sym e) h
 
-  ends_number : (tables : List (List ℕ)) (k : ℕ) (ws : List Write) (accepted : ℕ → Outcome) (o : Outcome) → ((c : ℕ) → number seen (accepted c) ≡ c) → Ends (whole limit log outs n) tables n seen k ws accepted o → number seen o ≤ length log
+  ends_number : (tables : List (List ℕ)) (k : ℕ) (ws : List Write) (accepted : ℕ → Outcome) (o : Outcome) → ((c : ℕ) → number seen (accepted c) ≡ c) → Ends (whole limit log met n) tables n seen k ws accepted o → number seen o ≤ length log
   ends_number tables k ws accepted o a (logged c commit l i e) = same o (accepted c) e (subst (λ x. x ≤ length log) (sym (a c)) (logs_within log c commit l))
   ends_number tables k ws accepted o a (conflicted w j l e) = same o _ e l.0
   ends_number tables k ws accepted o a (filled room l e) = same o _ e (omega (arith, l.1, l.3))
 
-  under_number : (k : ℕ) (ws : List Write) → Under (whole limit log outs n) seen s k ws → k ≤ length log
-  under_number k ws (inl e) = opened _ e
-  under_number k ws (inr u) = u.1.1
+  works_number : (v : View) → WorksOn (whole limit log met n) seen s v → v.from ≤ length log
+  works_number v (inl a) = opened _ a.under
+  works_number v (inr a) = a.starts.1
 
-  pub number_within : (item : Item) (o : Outcome) (s' : Session K) → Judged J (whole limit log outs n) n seen s item o s' → number seen o ≤ length log
+  pub number_within : (item : Item) (o : Outcome) (s' : Session K) → Judged J (whole limit log met n) n seen s item o s' → number seen o ≤ length log
   number_within item o s' (unread k b r e f) = same o _ e low
   number_within item o s' (already_open t r p e f) = same o _ e low
   number_within item o s' (begun k r p q e f) = same o _ e q.1
@@ -94,10 +94,10 @@ module _ {K D C Q X Y : Type 0} (J : Judges K D C Q X Y) (limit : ℕ) (log : Li
   number_within item o s' (define_fault d b k at r p q u e f) = same o _ e low
   number_within item o s' (defined d b name at c r p q u v e f) = same o _ e (subst (λ x. x ≤ length log) (sym v) low)
   number_within item o s' (change_fault c k at r p e f) = same o _ e low
-  number_within item o s' (change_stopped c x k row ws t r p u q a e f) = same o _ e (subst (λ v. v ≤ length log) (sym (refused_number seen k row)) (under_number k ws u))
-  number_within item o s' (changed c x k rows ws ws' t r p u q a e f) = same o _ e (opened _ u)
-  number_within item o s' (changed_none c x k ws' t r p u q v a e f) = same o _ e q.1
-  number_within item o s' (changed_alone c x k rows ws' t r p u q v a z e f) = ends_number (J.tables s.catalog) k ws' _ o (λ c. refl) e
+  number_within item o s' (change_stopped c x v row r p u a e f) = same o _ e (subst (λ k. k ≤ length log) (sym (refused_number seen v.from row)) (works_number v u))
+  number_within item o s' (changed c x v rows ws r p u a e f) = same o _ e (opened _ u.under)
+  number_within item o s' (changed_none c x v ws r p u a e f) = same o _ e u.starts.1
+  number_within item o s' (changed_alone c x v rows ws r p u a z e f) = ends_number (J.tables s.catalog) v.from ws _ o (λ c. refl) e
   number_within item o s' (query_fault q k at r p e f) = same o _ e low
-  number_within item o s' (answered q y k base ws t rows r p u v b a z e f) = same o _ e (under_number k ws u)
+  number_within item o s' (answered q y v base rows r p u a b e f) = same o _ e (works_number v u)
   number_within item o s' (waited x m i at r p e f) = same o _ e p.1

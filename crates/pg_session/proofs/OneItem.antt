@@ -1,22 +1,28 @@
 -- What one answered item adds to the log is what it prints, and a transaction that it leaves open was open or begins with it.
-use Rattle.std.proofs.Common.{◌≡◌, ℕ, ◌+◌, ◌≤◌, true, List, [], ◌∷◌, length, refl, ap, ◌∙◌}
-use Rattle.std.proofs.lemmas.List.{nil_from_length}
+use Rattle.std.proofs.Common.{◌≡◌, ℕ, ◌+◌, List, [], ◌∷◌, ◌++◌, length, inl, inr, refl, sym, subst, ap, ◌∙◌}
 use Rattle.std.specs.declared.option.Option.{Option}
 use Rattle.std.specs.declared.option.Option.TheVariants.{Some, None}
 use Rattle.pg_value.specs.declared.write.Write.{Write}
 use Rattle.pg_value.specs.declared.write.Commit.{Commit}
-use Rattle.pg_value.specs.Log.{held, conflict}
+use Rattle.pg_value.specs.Writes.{Limited}
+use Rattle.pg_value.specs.Log.{conflict, IsFull}
+use Rattle.pg_keyed.specs.Lists.{Each}
 use Rattle.pg_script.specs.declared.script.Item.{Item}
 use Rattle.pg_script.specs.declared.outcome.Outcome.{Outcome}
 use Rattle.pg_script.specs.declared.outcome.Outcome.TheVariants.{Defined, Began, Changed, ChangedAlone, Committed, CommitEmpty, RolledBack, Rows, After, AtByte, AlreadyOpen, NotOpen, Duplicate, TooManyWrites, AtColumn, Conflict, LogFull}
-use Rattle.pg_script.specs.Judged.{Judges, Session, Open, Refusal, IsDuplicate, IsTooMany, IsAtColumn, refused, Judged, Ends, logged, conflicted, filled, unread, already_open, begun, commit_not_open, rollback_not_open, rolled_back, commit_empty, committed, defines_in_session, defines_in_transaction, define_fault, defined, change_fault, change_stopped, changed, changed_none, changed_alone, query_fault, answered, waited}
+use Rattle.pg_script.specs.Judged.{Judges, Session, Open, Refusal, IsDuplicate, IsTooMany, IsAtColumn, refused, Judged, View, WorksOn, Ends, logged, conflicted, filled, unread, already_open, begun, commit_not_open, rollback_not_open, rolled_back, commit_empty, committed, defines_in_session, defines_in_transaction, define_fault, defined, change_fault, change_stopped, changed, changed_none, changed_alone, query_fault, answered, waited}
 use Rattle.pg_script.specs.Session.{number, printed}
-use Rattle.pg_session.specs.Stepped.{World, now, outs_of, follows_start}
+use Rattle.pg_session.specs.declared.event.Event.{Event}
+use Rattle.pg_session.specs.declared.event.Event.TheVariants as events
+use Rattle.pg_session.specs.Core.{IsTaken}
+use Rattle.pg_session.specs.Stepped.{World, now, outs_of, alone, refused_commit, events_of}
+use Rattle.pg_session.proofs.Within.{adds}
+use Rattle.pg_session.proofs.ItemCore.{IsOwn, Tried}
 
 -- what is added to the log is what the outcome prints
 pub data Added (limit n : ℕ) (log : List Commit) (added : List Commit) (o : Outcome) : Type 0 where
   nothing : added ≡ [] → printed o ≡ [] → Added limit n log added o
-  one : (c : Commit) → added ≡ c ∷ [] → c.session ≡ n → printed o ≡ (length log + 1) ∷ [] → c.from ≤ length log → (c.writes.list ≡ [] → ⊥) → conflict log c.from c.writes.list ≡ None → held log + length c.writes.list ≤ limit → Added limit n log added o
+  one : (c : Commit) → added ≡ c ∷ [] → c.session ≡ n → printed o ≡ (length log + 1) ∷ [] → IsTaken limit log c → Added limit n log added o
 
 pub printed_number : (seen c : ℕ) (o : Outcome) → printed o ≡ c ∷ [] → number seen o ≡ c
 printed_number seen c (Defined name at) h = cc
@@ -37,79 +43,106 @@ printed_number seen c (AtColumn kind row column at) h = cc
 printed_number seen c (Conflict table key from at) h = cc
 printed_number seen c (LogFull from room) h = cc
 
-refused_printed : (k : ℕ) (r : Refusal) → printed (refused r k) ≡ []
-refused_printed k (IsDuplicate row) = refl
-refused_printed k (IsTooMany row) = refl
-refused_printed k (IsAtColumn kind row column) = refl
+-- what an outcome of section n with these writes says of the log: what it adds, and why a commit was taken or refused
+abbrev pub Says : ℕ → ℕ → List Commit → Limited → Outcome → Type 0
+Says limit n log writes o = Added limit n log (adds n writes o) o × Tried limit log n writes o
 
-module _ {K D C Q X Y : Type 0} (J : Judges K D C Q X Y) (limit : ℕ) (w : World K) (added : List Commit) (n seen : ℕ) (s : Session K) where
-  quiet : (o p : Outcome) → o ≡ p → printed p ≡ [] → length added ≡ length (printed o) → Added limit n w.core.log added o
-  quiet o p e h l = let q : printed o ≡ [] = ap printed e ∙ h in nothing (nil_from_length added (l ∙ ap length q)) q
+refused_says : (limit n k : ℕ) (log : List Commit) (writes : Limited) (r : Refusal) → Says limit n log writes (refused r k)
+refused_says limit n k log writes (IsDuplicate row) = (nothing refl refl, tt)
+refused_says limit n k log writes (IsTooMany row) = (nothing refl refl, tt)
+refused_says limit n k log writes (IsAtColumn kind row column) = (nothing refl refl, tt)
 
-  ends_added : (tables : List (List ℕ)) (k : ℕ) (ws : List Write) (accepted : ℕ → Outcome) (o : Outcome) → ((c : ℕ) → printed (accepted c) ≡ c ∷ []) → length added ≡ length (printed o) → Ends (now limit w.core (outs_of w.runs) added n) tables n seen k ws accepted o → Added limit n w.core.log added o
-  ends_added tables k ws accepted o a l (logged c commit p i e) = one commit p.0 i.session (ap printed e ∙ a c ∙ ap (λ x. x ∷ []) p.1) p.2 p.3 p.4 p.5
-  ends_added tables k ws accepted o a l (conflicted x j p e) = quiet o _ e refl l
-  ends_added tables k ws accepted o a l (filled room p e) = quiet o _ e refl l
+refused_events : (n k : ℕ) (t : Option Open) (writes : Limited) (r : Refusal) → events_of n t writes (refused r k) ≡ alone n t []
+refused_events n k t writes (IsDuplicate row) = refl
+refused_events n k t writes (IsTooMany row) = refl
+refused_events n k t writes (IsAtColumn kind row column) = refl
 
-  pub judged_added : (item : Item) (o : Outcome) (s' : Session K) → length added ≡ length (printed o) → Judged J (now limit w.core (outs_of w.runs) added n) n seen s item o s' → Added limit n w.core.log added o
-  judged_added item o s' l (unread k b r e f) = quiet o _ e refl l
-  judged_added item o s' l (already_open t r p e f) = quiet o _ e refl l
-  judged_added item o s' l (begun k r p q e f) = quiet o _ e refl l
-  judged_added item o s' l (commit_not_open r p e f) = quiet o _ e refl l
-  judged_added item o s' l (rollback_not_open r p e f) = quiet o _ e refl l
-  judged_added item o s' l (rolled_back t r p e f) = quiet o _ e refl l
-  judged_added item o s' l (commit_empty k r p e f) = quiet o _ e refl l
-  judged_added item o s' l (committed t r p q e f) = ends_added (J.tables s.catalog) t.from t.writes _ o (λ c. refl) l e
-  judged_added item o s' l (defines_in_session d b r p e f) = quiet o _ e refl l
-  judged_added item o s' l (defines_in_transaction d b t r p q e f) = quiet o _ e refl l
-  judged_added item o s' l (define_fault d b k at r p q u e f) = quiet o _ e refl l
-  judged_added item o s' l (defined d b name at c r p q u v e f) = quiet o _ e refl l
-  judged_added item o s' l (change_fault c k at r p e f) = quiet o _ e refl l
-  judged_added item o s' l (change_stopped c x k row ws t r p u q a e f) = quiet o _ e (refused_printed k row) l
-  judged_added item o s' l (changed c x k rows ws ws' t r p u q a e f) = quiet o _ e refl l
-  judged_added item o s' l (changed_none c x k ws' t r p u q v a e f) = quiet o _ e refl l
-  judged_added item o s' l (changed_alone c x k rows ws' t r p u q v a z e f) = ends_added (J.tables s.catalog) k ws' _ o (λ c. refl) l e
-  judged_added item o s' l (query_fault q k at r p e f) = quiet o _ e refl l
-  judged_added item o s' l (answered q y k base ws t rows r p u v b a so e f) = quiet o _ e refl l
-  judged_added item o s' l (waited x m i at r p e f) = quiet o _ e refl l
+module _ {K D C Q X Y : Type 0} (J : Judges K D C Q X Y) (limit : ℕ) (w : World K) (writes : Limited) (n seen : ℕ) (s : Session K) where
+  abbrev SaysHere : Outcome → Type 0
+  SaysHere o = Says limit n w.core.log writes o
 
-  -- a transaction that is open afterwards was open before, or begins here
+  ends_says : (tables : List (List ℕ)) (k : ℕ) (ws : List Write) (accepted : ℕ → Outcome) (o : Outcome)
+      → ((c : ℕ) → IsTaken limit w.core.log (record { session = n; from = k; writes = writes }) → c ≡ length w.core.log + 1 → SaysHere (accepted c))
+      → Ends (now limit w.core (outs_of w.runs) writes n) tables n seen k ws accepted o → SaysHere o
+  ends_says tables k ws accepted o a (logged c commit l i e) =
+      let is : commit ≡ record { session = n; from = k; writes = writes } = λ j. record { session = i.session j; from = i.from j; writes = l.1 j } in
+      subst SaysHere (sym e) (a c (subst (IsTaken limit w.core.log) is l.0) l.2)
+  ends_says tables k ws accepted o a (conflicted x j l e) = subst SaysHere (sym e) (nothing refl refl, (x, ap (λ y. conflict w.core.log k y) (sym l.0) ∙ l.1))
+  ends_says tables k ws accepted o a (filled room l e) = subst SaysHere (sym e) (nothing refl refl, (ap (λ y. conflict w.core.log k y) (sym l.0) ∙ l.1, subst (IsFull limit w.core.log) l.0 l.3))
+
+  pub judged_says : (item : Item) (o : Outcome) (s' : Session K) → Judged J (now limit w.core (outs_of w.runs) writes n) n seen s item o s' → SaysHere o
+  judged_says item o s' (unread k b r e f) = subst SaysHere (sym e) (nothing refl refl, tt)
+  judged_says item o s' (already_open t r p e f) = subst SaysHere (sym e) (nothing refl refl, tt)
+  judged_says item o s' (begun k r p q e f) = subst SaysHere (sym e) (nothing refl refl, tt)
+  judged_says item o s' (commit_not_open r p e f) = subst SaysHere (sym e) (nothing refl refl, tt)
+  judged_says item o s' (rollback_not_open r p e f) = subst SaysHere (sym e) (nothing refl refl, tt)
+  judged_says item o s' (rolled_back t r p e f) = subst SaysHere (sym e) (nothing refl refl, tt)
+  judged_says item o s' (commit_empty k r p e f) = subst SaysHere (sym e) (nothing refl refl, tt)
+  judged_says item o s' (committed t r p q e f) = ends_says (J.tables s.catalog) t.from t.writes (Committed t.from) o (λ c k x. (one (record { session = n; from = t.from; writes = writes }) refl refl (ap (λ y. y ∷ []) x) k, k)) e
+  judged_says item o s' (defines_in_session d b r p e f) = subst SaysHere (sym e) (nothing refl refl, tt)
+  judged_says item o s' (defines_in_transaction d b t r p q e f) = subst SaysHere (sym e) (nothing refl refl, tt)
+  judged_says item o s' (define_fault d b k at r p q u e f) = subst SaysHere (sym e) (nothing refl refl, tt)
+  judged_says item o s' (defined d b name at c r p q u v e f) = subst SaysHere (sym e) (nothing refl refl, tt)
+  judged_says item o s' (change_fault c k at r p e f) = subst SaysHere (sym e) (nothing refl refl, tt)
+  judged_says item o s' (change_stopped c x v row r p u a e f) = subst SaysHere (sym e) (refused_says limit n v.from w.core.log writes row)
+  judged_says item o s' (changed c x v rows ws r p u a e f) = subst SaysHere (sym e) (nothing refl refl, tt)
+  judged_says item o s' (changed_none c x v ws r p u a e f) = subst SaysHere (sym e) (nothing refl refl, tt)
+  judged_says item o s' (changed_alone c x v rows ws r p u a z e f) = ends_says (J.tables s.catalog) v.from ws (ChangedAlone rows v.from) o (λ c k x. (one (record { session = n; from = v.from; writes = writes }) refl refl (ap (λ y. y ∷ []) x) k, k)) e
+  judged_says item o s' (query_fault q k at r p e f) = subst SaysHere (sym e) (nothing refl refl, tt)
+  judged_says item o s' (answered q y v base rows r p u a b e f) = subst SaysHere (sym e) (nothing refl refl, tt)
+  judged_says item o s' (waited x m i at r p e f) = subst SaysHere (sym e) (nothing refl refl, tt)
+
+  -- A transaction that is open afterwards was open before, or begins here; what is over has ended. Each goes with the events that come.
   pub data Opens (s' : Session K) (o : Outcome) : Type 0 where
-    shut : s'.open_ ≡ None → Opens s' o
-    goes_on : (t t' : Open) → s.open_ ≡ Some t → s'.open_ ≡ Some t' → t'.from ≡ t.from → Opens s' o
-    opens : (t' : Open) → s.open_ ≡ None → s'.open_ ≡ Some t' → t'.from ≡ length w.core.log → follows_start o ≡ true → Opens s' o
+    rests : s.open_ ≡ None → s'.open_ ≡ None → events_of n s.open_ writes o ≡ [] → Opens s' o
+    shut : (front : List Event) → s'.open_ ≡ None → Each (IsOwn n) front → events_of n s.open_ writes o ≡ front ++ events.Release n ∷ [] → Opens s' o
+    goes_on : (t t' : Open) → s.open_ ≡ Some t → s'.open_ ≡ Some t' → t'.from ≡ t.from → events_of n s.open_ writes o ≡ [] → Opens s' o
+    opens : (t' : Open) → s.open_ ≡ None → s'.open_ ≡ Some t' → t'.from ≡ length w.core.log → events_of n s.open_ writes o ≡ events.Pin n ∷ [] → Opens s' o
 
-  stays : (s' : Session K) (o : Outcome) (x : Option Open) → s.open_ ≡ x → s' ≡ s → Opens s' o
-  stays s' o None p f = shut (ap (λ z. z.open_) f ∙ p)
-  stays s' o (Some t) p f = goes_on t t p (ap (λ z. z.open_) f ∙ p) refl
+  stays : (s' : Session K) (o : Outcome) (x : Option Open) → s.open_ ≡ x → s' ≡ s → events_of n s.open_ writes o ≡ [] → Opens s' o
+  stays s' o None p f e = rests p (ap (λ z. z.open_) f ∙ p) e
+  stays s' o (Some t) p f e = goes_on t t p (ap (λ z. z.open_) f ∙ p) refl e
 
-  ended : (s' : Session K) (o : Outcome) → s' ≡ record s { open_ = None } → Opens s' o
-  ended s' o f = shut (ap (λ z. z.open_) f)
+  -- what stands between a start and an end of its own outside a transaction
+  between : (s' : Session K) (o : Outcome) (v : View) → WorksOn (now limit w.core (outs_of w.runs) writes n) seen s v → s' ≡ s → events_of n s.open_ writes o ≡ alone n s.open_ [] → Opens s' o
+  between s' o v (inl a) f e = goes_on (record { from = v.from; writes = v.writes }) (record { from = v.from; writes = v.writes }) a.under (ap (λ z. z.open_) f ∙ a.under) refl (e ∙ ap (λ t. alone n t []) a.under)
+  between s' o v (inr a) f e = shut (events.Pin n ∷ []) (ap (λ z. z.open_) f ∙ a.closed) (refl, tt) (e ∙ ap (λ t. alone n t []) a.closed)
 
-  pub judged_opens : (item : Item) (o : Outcome) (s' : Session K) → Judged J (now limit w.core (outs_of w.runs) added n) n seen s item o s' → Opens s' o
-  judged_opens item o s' (unread k b r e f) = stays s' o s.open_ refl f
-  judged_opens item o s' (already_open t r p e f) = stays s' o s.open_ refl f
-  judged_opens item o s' (begun k r p q e f) = opens (record { from = k; writes = [] }) p (ap (λ z. z.open_) f) q (ap follows_start e)
-  judged_opens item o s' (commit_not_open r p e f) = stays s' o s.open_ refl f
-  judged_opens item o s' (rollback_not_open r p e f) = stays s' o s.open_ refl f
-  judged_opens item o s' (rolled_back t r p e f) = ended s' o f
-  judged_opens item o s' (commit_empty k r p e f) = ended s' o f
-  judged_opens item o s' (committed t r p q e f) = ended s' o f
-  judged_opens item o s' (defines_in_session d b r p e f) = stays s' o s.open_ refl f
-  judged_opens item o s' (defines_in_transaction d b t r p q e f) = stays s' o s.open_ refl f
-  judged_opens item o s' (define_fault d b k at r p q u e f) = stays s' o s.open_ refl f
-  judged_opens item o s' (defined d b name at c r p q u v e f) = shut (ap (λ z. z.open_) f ∙ q)
-  judged_opens item o s' (change_fault c k at r p e f) = stays s' o s.open_ refl f
-  judged_opens item o s' (change_stopped c x k row ws t r p u q a e f) = stays s' o s.open_ refl f
-  judged_opens item o s' (changed c x k rows ws ws' t r p u q a e f) = goes_on (record { from = k; writes = ws }) (record { from = k; writes = ws' }) u (ap (λ z. z.open_) f) refl
-  judged_opens item o s' (changed_none c x k ws' t r p u q v a e f) = stays s' o s.open_ refl f
-  judged_opens item o s' (changed_alone c x k rows ws' t r p u q v a z e f) = stays s' o s.open_ refl f
-  judged_opens item o s' (query_fault q k at r p e f) = stays s' o s.open_ refl f
-  judged_opens item o s' (answered q y k base ws t rows r p u v b a so e f) = stays s' o s.open_ refl f
-  judged_opens item o s' (waited x m i at r p e f) = stays s' o s.open_ refl f
+  -- a commit of a transaction, and of a statement outside one
+  commit_opens : (tables : List (List ℕ)) (k : ℕ) (ws : List Write) (t : Open) (s' : Session K) (o : Outcome) → s.open_ ≡ Some t → s'.open_ ≡ None → Ends (now limit w.core (outs_of w.runs) writes n) tables n seen k ws (Committed k) o → Opens s' o
+  commit_opens tables k ws t s' o p q (logged c commit l i e) = shut (events.Commit n k writes ∷ []) q (refl, tt) (ap (events_of n s.open_ writes) e)
+  commit_opens tables k ws t s' o p q (conflicted x j l e) = shut (events.Commit n k writes ∷ []) q (refl, tt) (ap (events_of n s.open_ writes) e ∙ ap (λ z. refused_commit n z (events.Commit n k writes ∷ [])) p)
+  commit_opens tables k ws t s' o p q (filled room l e) = shut (events.Commit n k writes ∷ []) q (refl, tt) (ap (events_of n s.open_ writes) e ∙ ap (λ z. refused_commit n z (events.Commit n k writes ∷ [])) p)
+
+  alone_opens : (tables : List (List ℕ)) (k rows : ℕ) (ws : List Write) (s' : Session K) (o : Outcome) → s.open_ ≡ None → s'.open_ ≡ None → Ends (now limit w.core (outs_of w.runs) writes n) tables n seen k ws (ChangedAlone rows k) o → Opens s' o
+  alone_opens tables k rows ws s' o p q (logged c commit l i e) = shut (events.Pin n ∷ events.Commit n k writes ∷ []) q (refl, (refl, tt)) (ap (events_of n s.open_ writes) e)
+  alone_opens tables k rows ws s' o p q (conflicted x j l e) = shut (events.Pin n ∷ events.Commit n k writes ∷ []) q (refl, (refl, tt)) (ap (events_of n s.open_ writes) e ∙ ap (λ z. refused_commit n z (events.Commit n k writes ∷ [])) p)
+  alone_opens tables k rows ws s' o p q (filled room l e) = shut (events.Pin n ∷ events.Commit n k writes ∷ []) q (refl, (refl, tt)) (ap (events_of n s.open_ writes) e ∙ ap (λ z. refused_commit n z (events.Commit n k writes ∷ [])) p)
+
+  pub judged_opens : (item : Item) (o : Outcome) (s' : Session K) → Judged J (now limit w.core (outs_of w.runs) writes n) n seen s item o s' → Opens s' o
+  judged_opens item o s' (unread k b r e f) = stays s' o s.open_ refl f (ap (events_of n s.open_ writes) e)
+  judged_opens item o s' (already_open t r p e f) = stays s' o s.open_ refl f (ap (events_of n s.open_ writes) e)
+  judged_opens item o s' (begun k r p q e f) = opens (record { from = k; writes = [] }) p (ap (λ z. z.open_) f) q (ap (events_of n s.open_ writes) e)
+  judged_opens item o s' (commit_not_open r p e f) = stays s' o s.open_ refl f (ap (events_of n s.open_ writes) e)
+  judged_opens item o s' (rollback_not_open r p e f) = stays s' o s.open_ refl f (ap (events_of n s.open_ writes) e)
+  judged_opens item o s' (rolled_back t r p e f) = shut [] (ap (λ z. z.open_) f) tt (ap (events_of n s.open_ writes) e)
+  judged_opens item o s' (commit_empty k r p e f) = shut [] (ap (λ z. z.open_) f) tt (ap (events_of n s.open_ writes) e)
+  judged_opens item o s' (committed t r p q e f) = commit_opens (J.tables s.catalog) t.from t.writes t s' o p (ap (λ z. z.open_) f) e
+  judged_opens item o s' (defines_in_session d b r p e f) = stays s' o s.open_ refl f (ap (events_of n s.open_ writes) e)
+  judged_opens item o s' (defines_in_transaction d b t r p q e f) = stays s' o s.open_ refl f (ap (events_of n s.open_ writes) e)
+  judged_opens item o s' (define_fault d b k at r p q u e f) = stays s' o s.open_ refl f (ap (events_of n s.open_ writes) e)
+  judged_opens item o s' (defined d b name at c r p q u v e f) = rests q (ap (λ z. z.open_) f ∙ q) (ap (events_of n s.open_ writes) e)
+  judged_opens item o s' (change_fault c k at r p e f) = stays s' o s.open_ refl f (ap (events_of n s.open_ writes) e)
+  judged_opens item o s' (change_stopped c x v row r p u a e f) = between s' o v u f (ap (events_of n s.open_ writes) e ∙ refused_events n v.from s.open_ writes row)
+  judged_opens item o s' (changed c x v rows ws r p u a e f) = goes_on (record { from = v.from; writes = v.writes }) (record { from = v.from; writes = ws }) u.under (ap (λ z. z.open_) f) refl (ap (events_of n s.open_ writes) e ∙ ap (λ t. alone n t []) u.under)
+  judged_opens item o s' (changed_none c x v ws r p u a e f) = between s' o v (inr u) f (ap (events_of n s.open_ writes) e)
+  judged_opens item o s' (changed_alone c x v rows ws r p u a z e f) = alone_opens (J.tables s.catalog) v.from rows ws s' o u.closed (ap (λ z. z.open_) f ∙ u.closed) e
+  judged_opens item o s' (query_fault q k at r p e f) = stays s' o s.open_ refl f (ap (events_of n s.open_ writes) e)
+  judged_opens item o s' (answered q y v base rows r p u a b e f) = between s' o v u f (ap (events_of n s.open_ writes) e)
+  judged_opens item o s' (waited x m i at r p e f) = stays s' o s.open_ refl f (ap (events_of n s.open_ writes) e)
 
   -- a session leaves the catalog
-  pub judged_catalog : (item : Item) (o : Outcome) (s' : Session K) → (n ≡ 0 → ⊥) → Judged J (now limit w.core (outs_of w.runs) added n) n seen s item o s' → s'.catalog ≡ s.catalog
+  pub judged_catalog : (item : Item) (o : Outcome) (s' : Session K) → (n ≡ 0 → ⊥) → Judged J (now limit w.core (outs_of w.runs) writes n) n seen s item o s' → s'.catalog ≡ s.catalog
   judged_catalog item o s' z (unread k b r e f) = ap (λ z. z.catalog) f
   judged_catalog item o s' z (already_open t r p e f) = ap (λ z. z.catalog) f
   judged_catalog item o s' z (begun k r p q e f) = ap (λ z. z.catalog) f
@@ -123,10 +156,10 @@ module _ {K D C Q X Y : Type 0} (J : Judges K D C Q X Y) (limit : ℕ) (w : Worl
   judged_catalog item o s' z (define_fault d b k at r p q u e f) = ap (λ z. z.catalog) f
   judged_catalog item o s' z (defined d b name at c r p q u v e f) = absurd (z p)
   judged_catalog item o s' z (change_fault c k at r p e f) = ap (λ z. z.catalog) f
-  judged_catalog item o s' z (change_stopped c x k row ws t r p u q a e f) = ap (λ z. z.catalog) f
-  judged_catalog item o s' z (changed c x k rows ws ws' t r p u q a e f) = ap (λ z. z.catalog) f
-  judged_catalog item o s' z (changed_none c x k ws' t r p u q v a e f) = ap (λ z. z.catalog) f
-  judged_catalog item o s' z (changed_alone c x k rows ws' t r p u q v a y e f) = ap (λ z. z.catalog) f
+  judged_catalog item o s' z (change_stopped c x v row r p u a e f) = ap (λ z. z.catalog) f
+  judged_catalog item o s' z (changed c x v rows ws r p u a e f) = ap (λ z. z.catalog) f
+  judged_catalog item o s' z (changed_none c x v ws r p u a e f) = ap (λ z. z.catalog) f
+  judged_catalog item o s' z (changed_alone c x v rows ws r p u a y e f) = ap (λ z. z.catalog) f
   judged_catalog item o s' z (query_fault q k at r p e f) = ap (λ z. z.catalog) f
-  judged_catalog item o s' z (answered q y k base ws t rows r p u v b a so e f) = ap (λ z. z.catalog) f
+  judged_catalog item o s' z (answered q y v base rows r p u a b e f) = ap (λ z. z.catalog) f
   judged_catalog item o s' z (waited x m i at r p e f) = ap (λ z. z.catalog) f

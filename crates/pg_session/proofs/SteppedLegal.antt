@@ -12,13 +12,13 @@ use Rattle.pg_script.specs.declared.outcome.Outcome.{Outcome}
 use Rattle.pg_script.specs.declared.transcript.SectionOut.{SectionOut}
 use Rattle.pg_script.specs.declared.transcript.Transcript.{Transcript}
 use Rattle.pg_script.specs.Judged.{Judges, Session}
-use Rattle.pg_script.specs.Session.{whole, Runs, raised, NumbersWithin, all_printed}
-use Rattle.pg_script.specs.Legal.{no_section, items_of, no_answers, outcomes_of, setup_of, IsLegalSection, Legal}
+use Rattle.pg_script.specs.Session.{IsMet, whole, Runs, raised, NumbersWithin, all_printed}
+use Rattle.pg_script.specs.Legal.{no_section, items_of, no_answers, outcomes_of, setup_of, section_out, IsLegalSection, Legal}
 use Rattle.pg_session.specs.Core.{pin_of}
-use Rattle.pg_session.specs.Stepped.{World, Run, no_run, outs_of, session_at, first_seen, moved, IsIdle, Turn, Turns, run_out, setup_turns, last_turns, first_world, section_outs, transcript_of, Stepped, AreSessionTurns, Earlier}
+use Rattle.pg_session.specs.Stepped.{World, Run, no_run, outs_of, session_at, first_seen, Did, IsIdle, Turn, Turns, run_out, setup_turns, last_turns, first_world, seats_of, section_outs, transcript_of, Stepped, AreSessionTurns, Earlier}
 use Rattle.pg_session.specs.TurnsJoin.{turns_split}
 use Rattle.pg_session.specs.Legality.{SteppedRunsAreLegal}
-use Rattle.pg_session.proofs.BetweenTurns.{first_session, IsPinned, SoFar, InSetup}
+use Rattle.pg_session.proofs.BetweenTurns.{first_session, moved, IsPinned, SoFar, InSetup}
 use Rattle.pg_session.proofs.KeepsLegal.{session_kept, setup_kept, has_section, take_none}
 
 get_none : {A : Type 0} (xs : List A) (k : ℕ) → k < length xs → slice_get xs k ≡ None → ⊥
@@ -53,16 +53,20 @@ module _ {K D C Q X Y : Type 0} (J : Judges K D C Q X Y) (empty : K) (limit : �
   abbrev T : World K → ℕ → World K → Type 0
   T w n w' = Turn J limit script w n w'
 
+  -- the world after an item
+  becomes : (w w' : World K) (n : ℕ) (d : Did J limit script w n w') → w' ≡ moved w n d.outcome w'.core d.session
+  becomes w w' n d = λ i. record { core = w'.core; catalog = d.catalog i; runs = d.runs i }
+
   -- a session's turn, and the setup's, keep what is legal so far
   pub session_turn : (w w' : World K) (n : ℕ) → (n ≡ 0 → ⊥) → Good w → T w n w' → Good w'
   session_turn w w' n z g (inl i) = subst Good (sym i.1) g
-  session_turn w w' n z g (inr d) = subst Good (sym d.becomes) (session_kept J empty limit script w n d.item d.outcome d.added d.session g d.next d.judged d.as_printed (λ e. absurd (z e)) z)
+  session_turn w w' n z g (inr d) = subst Good (sym (becomes w w' n d)) (session_kept J empty limit script w n d.item d.outcome d.writes d.session w'.core g d.next d.judged d.core (λ e. absurd (z e)) z)
 
   pub setup_turn : (w w' : World K) → Good w → InSetup w → T w 0 w' → Good w' × InSetup w'
   setup_turn w w' g i (inl h) = (subst Good (sym h.1) g, subst InSetup (sym h.1) i)
   setup_turn w w' g i (inr d) =
-      let k = setup_kept J empty limit script w 0 d.item d.outcome d.added d.session g d.next d.judged d.as_printed (λ e. i.exact) refl i in
-      (subst Good (sym d.becomes) k.0, subst InSetup (sym d.becomes) k.1)
+      let k = setup_kept J empty limit script w 0 d.item d.outcome d.writes d.session w'.core g d.next d.judged d.core (λ e. i.exact) refl i in
+      (subst Good (sym (becomes w w' 0 d)) k.0, subst InSetup (sym (becomes w w' 0 d)) k.1)
 
   session_turns : (w w' : World K) (ns : List ℕ) → AreSessionTurns ns → Good w → Turns J limit script w ns w' → Good w'
   session_turns w w' [] z g t = subst Good (sym t) g
@@ -80,20 +84,20 @@ module _ {K D C Q X Y : Type 0} (J : Judges K D C Q X Y) (empty : K) (limit : �
   grown w w' n m g (inl i) = omega (arith, ap (λ (x : World K). length (outs_of x.runs m)) i.1)
   grown w w' n m g (inr d) =
       let place : n < length w.runs = let s = has_section script n (length (outs_of w.runs n)) d.item d.next in omega (arith, s, g.as_many) in
-      let e : length (outs_of w'.runs m) ≡ length (outs_of (moved script w n d.outcome d.added d.session).runs m) = ap (λ (x : World K). length (outs_of x.runs m)) d.becomes in
+      let e : length (outs_of w'.runs m) ≡ length (outs_of (moved w n d.outcome w'.core d.session).runs m) = ap (λ (x : World K). length (outs_of x.runs m)) (becomes w w' n d) in
       elim (cases_eq m n) [
-        | inl q ↦ (let f : length (outs_of (moved script w n d.outcome d.added d.session).runs m) ≡ length (outs_of w.runs n ++ d.outcome ∷ []) =
-            ap (λ k. length (outs_of (moved script w n d.outcome d.added d.session).runs k)) q ∙ ap (λ (r : Run). length r.outs) (get_or-set_same w.runs n _ no_run place) in
+        | inl q ↦ (let f : length (outs_of (moved w n d.outcome w'.core d.session).runs m) ≡ length (outs_of w.runs n ++ d.outcome ∷ []) =
+            ap (λ k. length (outs_of (moved w n d.outcome w'.core d.session).runs k)) q ∙ ap (λ (r : Run). length r.outs) (get_or-set_same w.runs n _ no_run place) in
             let y : length (outs_of w.runs m) ≡ length (outs_of w.runs n) = ap (λ k. length (outs_of w.runs k)) q in
             omega (arith, e, f, y, length-append (outs_of w.runs n) (d.outcome ∷ [])))
-        | inr q ↦ (let f : length (outs_of (moved script w n d.outcome d.added d.session).runs m) ≡ length (outs_of w.runs m) = ap (λ (r : Run). length r.outs) (get_or-set_other w.runs n m _ no_run q) in omega (arith, e, f))
+        | inr q ↦ (let f : length (outs_of (moved w n d.outcome w'.core d.session).runs m) ≡ length (outs_of w.runs m) = ap (λ (r : Run). length r.outs) (get_or-set_other w.runs n m _ no_run q) in omega (arith, e, f))
       ]
 
   -- an unfinished section whose earlier ones are finished goes on
   goes_on : (w w' : World K) (n : ℕ) → Earlier J script → Good w → ((m : ℕ) → m < n → Finished w m) → T w n w' → Finished w n ⊎ (length (outs_of w'.runs n) ≡ length (outs_of w.runs n) + 1)
   goes_on w w' n early g before (inr d) =
       let place : n < length w.runs = let s = has_section script n (length (outs_of w.runs n)) d.item d.next in omega (arith, s, g.as_many) in
-      inr (ap (λ (x : World K). length (outs_of x.runs n)) d.becomes ∙ ap (λ (r : Run). length r.outs) (get_or-set_same w.runs n _ no_run place) ∙ length-append (outs_of w.runs n) (d.outcome ∷ []))
+      inr (ap (λ (x : World K). length (outs_of x.runs n)) (becomes w w' n d) ∙ ap (λ (r : Run). length r.outs) (get_or-set_same w.runs n _ no_run place) ∙ length-append (outs_of w.runs n) (d.outcome ∷ []))
   goes_on w w' n early g before (inl i) = elim (cases_lt (length (outs_of w.runs n)) (length (items_of script n))) [
     | inl lt ↦ absurd (never i.0 lt)
     | inr le ↦ inl le
@@ -144,7 +148,7 @@ module _ {K D C Q X Y : Type 0} (J : Judges K D C Q X Y) (empty : K) (limit : �
   ]
 
   abbrev First : World K
-  First = first_world script empty
+  First = first_world script empty (seats_of script)
 
   alone : (m : ℕ) → get_or First.runs m no_run ≡ no_run
   alone m = all_alike (length script.sections) m no_run
@@ -160,8 +164,8 @@ module _ {K D C Q X Y : Type 0} (J : Judges K D C Q X Y) (empty : K) (limit : �
       seats = omega (arith, length-replicate {A = Option ℕ} (length script.sections + 1) None);
       heard = λ m. subst (λ (r : Run). NumbersWithin 0 0 r.outs) (sym (alone m)) tt;
       fits = λ m. subst (λ (r : Run). length r.outs ≤ length (items_of script m)) (sym (alone m)) (omega arith);
-      runs = λ m. subst (λ (r : Run). Runs J (whole limit [] (outs_of First.runs) m) m (first_seen [] m) (first_session empty First m) (take (length r.outs) (items_of script m)) r.outs (record { open_ = r.open_; catalog = empty })) (sym (alone m))
-          (subst (λ is. Runs J (whole limit [] (outs_of First.runs) m) m (first_seen [] m) (first_session empty First m) is [] (record { open_ = None; catalog = empty })) (sym (take_none (items_of script m)))
+      runs = λ m. subst (λ (r : Run). Runs J (whole limit [] (IsMet (outs_of First.runs)) m) m (first_seen [] m) (first_session empty First m) (take (length r.outs) (items_of script m)) r.outs (record { open_ = r.open_; catalog = empty })) (sym (alone m))
+          (subst (λ is. Runs J (whole limit [] (IsMet (outs_of First.runs)) m) m (first_seen [] m) (first_session empty First m) is [] (record { open_ = None; catalog = empty })) (sym (take_none (items_of script m)))
           (same_either (m == 0)));
       pins = λ m. subst (λ (r : Run). IsPinned [] (pin_of First.core m) r.open_ (length r.outs < length (items_of script m))) (sym (alone m))
           (record { old = λ t e. absurd (none-some t e); free = λ e. all_alike (length script.sections + 1) m None; near = λ t e l. absurd (none-some t e) });
@@ -181,12 +185,12 @@ module _ {K D C Q X Y : Type 0} (J : Judges K D C Q X Y) (empty : K) (limit : �
 
   -- THE THEOREM
   legal_section : (w : World K) (n seen : ℕ) (catalog : K) → Good w → Finished w n
-      → Runs J (whole limit w.core.log (outs_of w.runs) n) n seen (begins_with catalog) (take (length (outs_of w.runs n)) (items_of script n)) (outs_of w.runs n) (session_at w n)
-      → IsLegalSection J limit script (transcript_of J script w) n seen catalog w.catalog
+      → Runs J (whole limit w.core.log (IsMet (outs_of w.runs)) n) n seen (begins_with catalog) (take (length (outs_of w.runs n)) (items_of script n)) (outs_of w.runs n) (session_at w n)
+      → IsLegalSection J limit w.core.log (IsMet (outcomes_of (section_outs script.sections w.runs))) n seen (items_of script n) (section_out (transcript_of J script w) n) catalog w.catalog
   legal_section w n seen catalog g f r = record {
     last = session_at w n;
-    runs = subst (λ (outs : ℕ → List Outcome). Runs J (whole limit w.core.log outs n) n seen (begins_with catalog) (items_of script n) (outs n) (session_at w n)) (λ i m. sym (outcomes_are script.sections w.runs g.as_many m) i)
-        (subst (λ is. Runs J (whole limit w.core.log (outs_of w.runs) n) n seen (begins_with catalog) is (outs_of w.runs n) (session_at w n)) (take_all _ (items_of script n) f) r);
+    runs = subst (λ (outs : ℕ → List Outcome). Runs J (whole limit w.core.log (IsMet outs) n) n seen (begins_with catalog) (items_of script n) (outs n) (session_at w n)) (λ i m. sym (outcomes_are script.sections w.runs g.as_many m) i)
+        (subst (λ is. Runs J (whole limit w.core.log (IsMet (outs_of w.runs)) n) n seen (begins_with catalog) is (outs_of w.runs n) (session_at w n)) (take_all _ (items_of script n) f) r);
     leaves = refl;
     rolled_back = rolled_back_is script.sections w.runs g.as_many n;
   }
@@ -201,7 +205,7 @@ module _ {K D C Q X Y : Type 0} (J : Judges K D C Q X Y) (empty : K) (limit : �
     each = λ m pos lt.
         let y : (m == 0) ≡ false = ne_eqb m 0 (λ e. omega (arith, e, pos)) in
         legal_section w m (setup_of w.core.log) w.catalog g (f m (omega (arith, lt, length-drop 1 script.sections)))
-        (subst (λ b. Runs J (whole limit w.core.log (outs_of w.runs) m) m (cond b 0 (setup_of w.core.log)) (record { open_ = None; catalog = cond b empty w.catalog }) (take (length (outs_of w.runs m)) (items_of script m)) (outs_of w.runs m) (session_at w m)) y (g.runs m));
+        (subst (λ b. Runs J (whole limit w.core.log (IsMet (outs_of w.runs)) m) m (cond b 0 (setup_of w.core.log)) (record { open_ = None; catalog = cond b empty w.catalog }) (take (length (outs_of w.runs m)) (items_of script m)) (outs_of w.runs m) (session_at w m)) y (g.runs m));
     entries = λ n. g.entries n ∙ ap all_printed (sym (outcomes_are script.sections w.runs g.as_many n));
     setup_first = g.setup_first;
     tables_named = refl;
@@ -227,5 +231,5 @@ module _ {K D C Q X Y : Type 0} (J : Judges K D C Q X Y) (empty : K) (limit : �
             let y = grown_all t.0 w' ns m z.1 (session_turn w t.0 n z.0 g t.1) t.2 in omega (arith, x, y)
 
 -- the law, in any language
-pub stepped_runs_are_legal : {K D C Q X Y : Type 0} (J : List ℕ → Judges K D C Q X Y) → SteppedRunsAreLegal J
-stepped_runs_are_legal J empty limit script t early order stepped = stepped_legal (J script.text) empty limit script early order t stepped
+pub stepped_runs_are_legal : {K D C Q X Y : Type 0} (J : Script → Judges K D C Q X Y) → SteppedRunsAreLegal J
+stepped_runs_are_legal J empty limit script t early order stepped = stepped_legal (J script) empty limit script early order t stepped

@@ -1,14 +1,18 @@
 -- The core, as plain data: the log, the bases that are kept and pinned, and the steps that change them.
 use Rattle.std.specs.Prelude.{◌≡◌, ◌==◌, ◌≤◌, ◌<◌, ℕ, ◌+◌, ◌-◌, ◌^◌, Bool, true, false, cond, List, [], ◌∷◌, ◌++◌, length, get_or, slice_set, replicate, ◌||◌, nat_lt, is_some}
+use Rattle.std.specs.List.{list_any}
 use Rattle.std.specs.declared.option.Option.{Option}
 use Rattle.std.specs.declared.option.Option.TheVariants.{Some, None}
-use Rattle.pg_value.specs.declared.row.Key.{Key}
-use Rattle.pg_value.specs.declared.shape.TableNo.{TableNo}
 use Rattle.pg_value.specs.declared.shape.Shapes.{Shapes}
 use Rattle.pg_value.specs.declared.write.Write.{Write}
 use Rattle.pg_value.specs.declared.write.Commit.{Commit}
 use Rattle.pg_value.specs.Tables.{FitWrites}
+use Rattle.pg_value.specs.Writes.{Limited, IsInOrder}
 use Rattle.pg_value.specs.Log.{held, conflict, IsFull}
+use Rattle.pg_session.specs.declared.event.Event.{Event}
+use Rattle.pg_session.specs.declared.event.Event.TheVariants as events
+use Rattle.pg_session.specs.declared.event.Reply.{Reply}
+use Rattle.pg_session.specs.declared.event.Reply.TheVariants as replies
 
 -- an open build: the seat that opened it, the base that it began from, and the version that it builds
 pub record Build : Type 0 where
@@ -29,25 +33,31 @@ pub record Core : Type 0 where
   pub stopped : Bool
   pub peak : ℕ × ℕ
 
+-- a base is among these
+abbrev pub is_listed : ℕ → List ℕ → Bool
+is_listed b bases = list_any (λ x. x == b) bases
+
+-- the bases that are pinned
+abbrev pub pinned : List (Option ℕ) → List ℕ
+pinned [] = []
+pinned (None ∷ pins) = pinned pins
+pinned (Some b ∷ pins) = b ∷ pinned pins
+
 abbrev pub pin_count : List (Option ℕ) → ℕ
-pin_count [] = 0
-pin_count (None ∷ pins) = pin_count pins
-pin_count (Some b ∷ pins) = 1 + pin_count pins
+pin_count pins = length (pinned pins)
 
-abbrev pub is_pinned : ℕ → List (Option ℕ) → Bool
-is_pinned b [] = false
-is_pinned b (None ∷ pins) = is_pinned b pins
-is_pinned b (Some c ∷ pins) = cond (c == b) true (is_pinned b pins)
+-- the distinct ones of these
+abbrev pub distinct : List ℕ → List ℕ
+distinct [] = []
+distinct (b ∷ bases) = cond (is_listed b bases) (distinct bases) (b ∷ distinct bases)
 
--- how many different bases are pinned beside this one
-abbrev pub others : ℕ → List (Option ℕ) → ℕ
-others base [] = 0
-others base (None ∷ pins) = others base pins
-others base (Some b ∷ pins) = cond (b == base) 0 (cond (is_pinned b pins) 0 1) + others base pins
+-- the bases that are listed: the distinct ones of the current base and the pinned ones
+abbrev pub listed : Core → List ℕ
+listed c = distinct (c.base ∷ pinned c.pins)
 
--- The bases that are listed are the current one and the pinned ones. Kept is their number, and one more while a build is open.
+-- how many bases are kept: those that are listed, and one more while a build is open
 abbrev pub kept : Core → ℕ
-kept c = 1 + others c.base c.pins + cond (is_some c.build) 1 0
+kept c = length (listed c) + cond (is_some c.build) 1 0
 
 -- the peak after a moment: raised where more is kept than ever
 abbrev pub seen_peak : Core → Core
@@ -97,96 +107,96 @@ after_install c b = seen_peak (record c { base = b.at; pins = slice_set c.pins b
 abbrev pub IsNotBuilding : Core → ℕ → Type 0
 IsNotBuilding c seat = (b : Build) → c.build ≡ Some b → b.seat ≡ seat → ⊥
 
+-- WHETHER A COMMIT IS TAKEN
+
+-- it had read a version that there is, it writes something, no commit since wrote a row that it writes, and the log has room for it
+pub record IsTaken (limit : ℕ) (log : List Commit) (commit : Commit) : Type 0 where
+  pub before : commit.from ≤ length log
+  pub some : commit.writes.list ≡ [] → ⊥
+  pub free : conflict log commit.from commit.writes.list ≡ None
+  pub room : held log + length commit.writes.list ≤ limit
+
+-- how the core answers a commit: conflict first, then a full log, else it is taken
+pub data CommitAnswers (limit : ℕ) (old : Core) (commit : Commit) (reply : Reply) (new : Core) : Type 0 where
+  conflicts : (w : Write) (at : ℕ)
+      → conflict old.log commit.from commit.writes.list ≡ Some (w, at)
+      → reply ≡ replies.Conflict w.table w.key at
+      → new ≡ old
+      → CommitAnswers limit old commit reply new
+  fills :
+      conflict old.log commit.from commit.writes.list ≡ None
+      → IsFull limit old.log commit.writes.list
+      → reply ≡ replies.LogFull (held old.log)
+      → new ≡ old
+      → CommitAnswers limit old commit reply new
+  takes :
+      IsTaken limit old.log commit
+      → reply ≡ replies.Committed (length old.log + 1)
+      → new ≡ after_commit old commit
+      → CommitAnswers limit old commit reply new
+
 -- EVENTS AND REPLIES
 
-pub data Event : Type 0 where
-  Pin : (seat : ℕ) → Event
-  Release : (seat : ℕ) → Event
-  Commits : (commit : Commit) → Event
-  BeginFold : (seat : ℕ) → Event
-  Install : Event
-  Abandon : Event
-  Mark : (session : ℕ) → Event
-  EndSession : (session : ℕ) → Event
-  Stop : Event
-
-pub data Reply : Type 0 where
-  Pinned : (at base : ℕ) → Reply
-  Released : (had : Bool) → Reply
-  Committed : (at : ℕ) → Reply
-  Conflicts : (table : TableNo) (key : Key) (at : ℕ) → Reply
-  LogFull : (held : ℕ) → Reply
-  Job : (at : ℕ) → Reply
-  NotYet : Reply
-  Stopped : Reply
-  Installed : Reply
-  Stale : (base : ℕ) → Reply
-  Done : Reply
-  Refused : Reply
+-- a commit may come: from a seat that there is, over a version that there is, of writes that there are, in order, no place twice, which fit the shapes
+pub record CanCommit (shapes : Shapes) (c : Core) (seat from : ℕ) (writes : List Write) : Type 0 where
+  pub seated : seat < length c.pins
+  pub before : from ≤ length c.log
+  pub some : writes ≡ [] → ⊥
+  pub in_order : IsInOrder writes
+  pub fit : FitWrites shapes writes
 
 -- whether an event may come
 abbrev pub CanCome : Shapes → Core → Event → Type 0
-CanCome shapes c (Pin seat) = (seat < length c.pins) × (pin_of c seat ≡ None)
-CanCome shapes c (Release seat) = (seat < length c.pins) × IsNotBuilding c seat
-CanCome shapes c (Commits w) = (w.session < length c.pins) × (w.writes.list ≡ [] → ⊥) × FitWrites shapes w.writes.list × (w.from ≤ length c.log)
-CanCome shapes c (BeginFold seat) = (seat < length c.pins) × (pin_of c seat ≡ None)
-CanCome shapes c Install = is_some c.build ≡ true
-CanCome shapes c Abandon = is_some c.build ≡ true
-CanCome shapes c (Mark n) = (n < length c.counts) × (get_or c.ended n false ≡ false) × (get_or c.counts n 0 + 1 < 2 ^ 32)
-CanCome shapes c (EndSession n) = n < length c.ended
-CanCome shapes c Stop = Unit {0}
-
--- how the core answers a commit: conflict first, then a full log, else it is taken
-abbrev pub CommitAnswers : ℕ → Core → Commit → Reply → Core → Type 0
-CommitAnswers limit old commit (Conflicts table key at) new = (w : Write) × (conflict old.log commit.from commit.writes.list ≡ Some (w, at)) × (table ≡ w.table) × (key ≡ w.key) × (new ≡ old)
-CommitAnswers limit old commit (LogFull room) new = (conflict old.log commit.from commit.writes.list ≡ None) × IsFull limit old.log commit.writes.list × (room ≡ held old.log) × (new ≡ old)
-CommitAnswers limit old commit (Committed at) new =
-    (conflict old.log commit.from commit.writes.list ≡ None) × (held old.log + length commit.writes.list ≤ limit) × (at ≡ length old.log + 1) × (new ≡ after_commit old commit)
-CommitAnswers limit old commit (Pinned at base) new = ⊥
-CommitAnswers limit old commit (Released had) new = ⊥
-CommitAnswers limit old commit (Job at) new = ⊥
-CommitAnswers limit old commit NotYet new = ⊥
-CommitAnswers limit old commit Stopped new = ⊥
-CommitAnswers limit old commit Installed new = ⊥
-CommitAnswers limit old commit (Stale base) new = ⊥
-CommitAnswers limit old commit Done new = ⊥
-CommitAnswers limit old commit Refused new = ⊥
+CanCome shapes c (events.Pin seat) = (seat < length c.pins) × (pin_of c seat ≡ None)
+CanCome shapes c (events.Release seat) = (seat < length c.pins) × IsNotBuilding c seat
+CanCome shapes c (events.Commit seat from writes) = CanCommit shapes c seat from writes.list
+CanCome shapes c (events.BeginFold seat) = (seat < length c.pins) × (pin_of c seat ≡ None)
+CanCome shapes c events.Install = is_some c.build ≡ true
+CanCome shapes c events.Abandon = is_some c.build ≡ true
+CanCome shapes c (events.Mark n) = (n < length c.counts) × (get_or c.ended n false ≡ false) × (get_or c.counts n 0 + 1 < 2 ^ 32)
+CanCome shapes c (events.EndSession n) = n < length c.ended
+CanCome shapes c events.Stop = Unit {0}
 
 -- One step of the core: an event, its reply, and the core after it. What is not named stays. An event that may not come is refused and changes nothing.
 pub data Step (shapes : Shapes) (limit : ℕ) (old : Core) (event : Event) (reply : Reply) (new : Core) : Type 0 where
-  refuses : (CanCome shapes old event → ⊥) → reply ≡ Refused → new ≡ old → Step shapes limit old event reply new
-  pins : (seat : ℕ) → event ≡ Pin seat → CanCome shapes old event
-      → reply ≡ Pinned (length old.log) old.base → new ≡ after_pin old seat → Step shapes limit old event reply new
-  releases : (seat : ℕ) → event ≡ Release seat → CanCome shapes old event
-      → reply ≡ Released (is_some (pin_of old seat)) → new ≡ after_release old seat → Step shapes limit old event reply new
-  commits : (commit : Commit) → event ≡ Commits commit → CanCome shapes old event
-      → CommitAnswers limit old commit reply new → Step shapes limit old event reply new
-  fold_stopped : (seat : ℕ) → event ≡ BeginFold seat → CanCome shapes old event → old.stopped ≡ true
-      → reply ≡ Stopped → new ≡ old → Step shapes limit old event reply new
-  fold_not_yet : (seat : ℕ) → event ≡ BeginFold seat → CanCome shapes old event → old.stopped ≡ false → ((length old.log == old.base) || is_some old.build) ≡ true
-      → reply ≡ NotYet → new ≡ old → Step shapes limit old event reply new
-  fold_begins : (seat : ℕ) → event ≡ BeginFold seat → CanCome shapes old event → old.stopped ≡ false → (length old.log ≡ old.base → ⊥) → old.build ≡ None
-      → reply ≡ Job (length old.log) → new ≡ after_fold old seat → Step shapes limit old event reply new
-  install_stale : (b : Build) → event ≡ Install → old.build ≡ Some b → (old.base ≡ b.base → ⊥)
-      → reply ≡ Stale old.base → new ≡ after_abandon old b → Step shapes limit old event reply new
-  installs : (b : Build) → event ≡ Install → old.build ≡ Some b → old.base ≡ b.base
-      → reply ≡ Installed → new ≡ after_install old b → Step shapes limit old event reply new
-  abandons : (b : Build) → event ≡ Abandon → old.build ≡ Some b → reply ≡ Done → new ≡ after_abandon old b → Step shapes limit old event reply new
-  marks : (session : ℕ) → event ≡ Mark session → CanCome shapes old event
-      → reply ≡ Done → new ≡ after_mark old session → Step shapes limit old event reply new
-  ends : (session : ℕ) → event ≡ EndSession session → CanCome shapes old event
-      → reply ≡ Done → new ≡ record old { ended = slice_set old.ended session true } → Step shapes limit old event reply new
-  stops : event ≡ Stop → reply ≡ Done → new ≡ record old { stopped = true } → Step shapes limit old event reply new
+  refuses : (CanCome shapes old event → ⊥) → reply ≡ replies.Refused → new ≡ old → Step shapes limit old event reply new
+  pins : (seat : ℕ) → event ≡ events.Pin seat → CanCome shapes old event
+      → reply ≡ replies.Pinned (length old.log) old.base → new ≡ after_pin old seat → Step shapes limit old event reply new
+  releases : (seat : ℕ) → event ≡ events.Release seat → CanCome shapes old event
+      → reply ≡ replies.Released (is_some (pin_of old seat)) → new ≡ after_release old seat → Step shapes limit old event reply new
+  commits : (seat from : ℕ) (writes : Limited) → event ≡ events.Commit seat from writes → CanCome shapes old event
+      → CommitAnswers limit old (record { session = seat; from = from; writes = writes }) reply new → Step shapes limit old event reply new
+  fold_stopped : (seat : ℕ) → event ≡ events.BeginFold seat → CanCome shapes old event → old.stopped ≡ true
+      → reply ≡ replies.Stopped → new ≡ old → Step shapes limit old event reply new
+  fold_not_yet : (seat : ℕ) → event ≡ events.BeginFold seat → CanCome shapes old event → old.stopped ≡ false → ((length old.log == old.base) || is_some old.build) ≡ true
+      → reply ≡ replies.NotYet → new ≡ old → Step shapes limit old event reply new
+  fold_begins : (seat : ℕ) → event ≡ events.BeginFold seat → CanCome shapes old event → old.stopped ≡ false → (length old.log ≡ old.base → ⊥) → old.build ≡ None
+      → reply ≡ replies.Job (length old.log) → new ≡ after_fold old seat → Step shapes limit old event reply new
+  install_stale : (b : Build) → event ≡ events.Install → old.build ≡ Some b → (old.base ≡ b.base → ⊥)
+      → reply ≡ replies.Stale old.base → new ≡ after_abandon old b → Step shapes limit old event reply new
+  installs : (b : Build) → event ≡ events.Install → old.build ≡ Some b → old.base ≡ b.base
+      → reply ≡ replies.Installed → new ≡ after_install old b → Step shapes limit old event reply new
+  abandons : (b : Build) → event ≡ events.Abandon → old.build ≡ Some b → reply ≡ replies.Done → new ≡ after_abandon old b → Step shapes limit old event reply new
+  marks : (session : ℕ) → event ≡ events.Mark session → CanCome shapes old event
+      → reply ≡ replies.Done → new ≡ after_mark old session → Step shapes limit old event reply new
+  ends : (session : ℕ) → event ≡ events.EndSession session → CanCome shapes old event
+      → reply ≡ replies.Done → new ≡ record old { ended = slice_set old.ended session true } → Step shapes limit old event reply new
+  stops : event ≡ events.Stop → reply ≡ replies.Done → new ≡ record old { stopped = true } → Step shapes limit old event reply new
 
--- the core before the first event: so many seats and sessions, and nothing else
+-- events one after another, each of which may come
+abbrev pub Steps : Shapes → ℕ → Core → List Event → Core → Type 0
+Steps shapes limit old [] new = new ≡ old
+Steps shapes limit old (e ∷ es) new = (reply : Reply) × (m : Core) × CanCome shapes old e × Step shapes limit old e reply m × Steps shapes limit m es new
+
+-- The core before the first event: so many seats, places for so many sections, the setup's (of which nothing is counted) and each session's, and nothing else.
 abbrev pub first_core : ℕ → ℕ → Core
-first_core seats sessions = record {
+first_core seats sections = record {
   log = [];
   base = 0;
   pins = replicate seats None;
   build = None;
-  counts = replicate (sessions + 1) 0;
-  ended = replicate (sessions + 1) false;
+  counts = replicate sections 0;
+  ended = replicate sections false;
   stopped = false;
   peak = (1, 0);
 }

@@ -1,10 +1,12 @@
 -- A stepped run: turns of the sections over one core, each with no choice but which paths ANY takes.
-use Rattle.std.specs.Prelude.{◌≡◌, ◌⊎◌, ◌==◌, ℕ, ◌+◌, ◌<◌, ◌≤◌, Bool, true, false, cond, List, [], ◌∷◌, ◌++◌, length, drop, replicate, get_or, slice_get, slice_set, is_none, is_some, ◌&&◌, ◌||◌}
+use Rattle.std.specs.Prelude.{◌≡◌, ◌⊎◌, ◌==◌, ℕ, ◌+◌, ◌<◌, ◌≤◌, Bool, cond, List, [], ◌∷◌, ◌++◌, length, drop, replicate, get_or, slice_get, slice_set, is_some}
 use Rattle.std.specs.declared.option.Option.{Option}
 use Rattle.std.specs.declared.option.Option.TheVariants.{Some, None}
 use Rattle.std.specs.Option.{unwrap_or}
+use Rattle.pg_value.specs.declared.shape.Shapes.{Shapes}
 use Rattle.pg_value.specs.declared.write.Commit.{Commit}
-use Rattle.pg_value.specs.Log.{after, held, conflict}
+use Rattle.pg_value.specs.Log.{view, held, conflict, IsFull}
+use Rattle.pg_value.specs.Writes.{Limited}
 use Rattle.pg_script.specs.declared.script.Item.{Item}
 use Rattle.pg_script.specs.declared.script.Section.{Section}
 use Rattle.pg_script.specs.declared.script.Script.{Script}
@@ -13,13 +15,11 @@ use Rattle.pg_script.specs.declared.outcome.Outcome.TheVariants.{Defined, Began,
 use Rattle.pg_script.specs.declared.transcript.SectionOut.{SectionOut}
 use Rattle.pg_script.specs.declared.transcript.Transcript.{Transcript}
 use Rattle.pg_script.specs.Judged.{Judges, History, Session, Open, Judged, Waits}
-use Rattle.pg_script.specs.Session.{printed, raised}
+use Rattle.pg_script.specs.Session.{raised}
 use Rattle.pg_script.specs.Legal.{items_of, setup_of}
-use Rattle.pg_session.specs.Core.{Core, first_core, after_pin, after_release, after_commit, after_redefine, after_mark}
-
-abbrev pub after_commits : Core → List Commit → Core
-after_commits c [] = c
-after_commits c (w ∷ ws) = after_commits (after_commit c w) ws
+use Rattle.pg_session.specs.declared.event.Event.{Event}
+use Rattle.pg_session.specs.declared.event.Event.TheVariants as events
+use Rattle.pg_session.specs.Core.{Core, first_core, after_redefine, IsTaken, Steps}
 
 -- the base under a statement of this section: its pin's, or the current one
 abbrev pub base_of : Core → ℕ → ℕ
@@ -53,96 +53,93 @@ first_seen log n = cond (n == 0) 0 (setup_of log)
 abbrev pub seen_at : {K : Type 0} → World K → ℕ → ℕ
 seen_at w n = raised (first_seen w.core.log n) (outs_of w.runs n)
 
--- What an outcome rests on in a stepped run: the log so far, and what is added to it, leave no choice.
-abbrev pub now : ℕ → Core → (ℕ → List Outcome) → List Commit → ℕ → History
-now limit core outs added n = record {
+-- an AFTER is met where the other session has answered so many items
+abbrev pub HasAnswered : (ℕ → List Outcome) → ℕ → ℕ → Type 0
+HasAnswered outs m i = i ≤ length (outs m)
+
+-- What an outcome rests on in a stepped run: the log so far leaves no choice. `writes` are those that the item commits, or would commit.
+abbrev pub now : ℕ → Core → (ℕ → List Outcome) → Limited → ℕ → History
+now limit core outs writes n = record {
   defines = λ seen at. at ≡ length core.log;
   starts = λ seen k. k ≡ length core.log;
-  sees = λ k t. t ≡ after core.log k;
-  logs = λ c commit. (added ≡ commit ∷ []) × (c ≡ length core.log + 1) × (commit.from ≤ length core.log) × (commit.writes.list ≡ [] → ⊥) × (conflict core.log commit.from commit.writes.list ≡ None) × (held core.log + length commit.writes.list ≤ limit);
-  conflicts = λ k ws write j. conflict core.log k ws ≡ Some (write, j);
-  fills = λ seen k ws room. (conflict core.log k ws ≡ None) × (room ≡ held core.log) × (limit < room + length ws);
-  meets = λ seen m i at. (i ≤ length (outs m)) × (at ≡ length core.log);
+  sees = λ k ws t. t ≡ view core.log k ws;
+  logs = λ c commit. IsTaken limit core.log commit × (commit.writes ≡ writes) × (c ≡ length core.log + 1);
+  conflicts = λ k ws write j. (ws ≡ writes.list) × (conflict core.log k ws ≡ Some (write, j));
+  fills = λ seen k ws room. (ws ≡ writes.list) × (conflict core.log k ws ≡ None) × (room ≡ held core.log) × IsFull limit core.log ws;
+  meets = λ seen m i at. HasAnswered outs m i × (at ≡ length core.log);
   bases = λ k base. base ≡ base_of core n;
 }
 
--- the outcomes, outside a transaction, that come after a start
-abbrev pub follows_start : Outcome → Bool
-follows_start (Defined name at) = false
-follows_start (Began at) = true
-follows_start (Changed rows at) = true
-follows_start (ChangedAlone rows from at) = true
-follows_start (Committed from at) = false
-follows_start (CommitEmpty at) = false
-follows_start (RolledBack at) = false
-follows_start (Rows at base names rows) = true
-follows_start (After name n at) = false
-follows_start (AtByte kind byte) = false
-follows_start AlreadyOpen = false
-follows_start NotOpen = false
-follows_start (Duplicate row at) = true
-follows_start (TooManyWrites row at) = true
-follows_start (AtColumn kind row column at) = true
-follows_start (Conflict table key from at) = true
-follows_start (LogFull from room) = true
+-- ONE ITEM'S EVENTS
 
-abbrev pub is_definition : Outcome → Bool
-is_definition (Defined name at) = true
-is_definition (Began at) = false
-is_definition (Changed rows at) = false
-is_definition (ChangedAlone rows from at) = false
-is_definition (Committed from at) = false
-is_definition (CommitEmpty at) = false
-is_definition (RolledBack at) = false
-is_definition (Rows at base names rows) = false
-is_definition (After name n at) = false
-is_definition (AtByte kind byte) = false
-is_definition AlreadyOpen = false
-is_definition NotOpen = false
-is_definition (Duplicate row at) = false
-is_definition (TooManyWrites row at) = false
-is_definition (AtColumn kind row column at) = false
-is_definition (Conflict table key from at) = false
-is_definition (LogFull from room) = false
+-- what a statement outside a transaction does stands between a start and an end of its own
+abbrev pub alone : ℕ → Option Open → List Event → List Event
+alone n None es = events.Pin n ∷ (es ++ events.Release n ∷ [])
+alone n (Some t) es = es
 
--- ONE ITEM'S EVENTS: a start, a commit, an accepted definition, an end, and a session's mark
-abbrev pub went : Core → ℕ → Bool → List Commit → Core
-went c n starts added = after_commits (cond starts (after_pin c n) c) added
+-- a refused commit ends the transaction, or the statement outside one
+abbrev pub refused_commit : ℕ → Option Open → List Event → List Event
+refused_commit n None es = events.Pin n ∷ (es ++ events.Release n ∷ [])
+refused_commit n (Some t) es = es ++ events.Release n ∷ []
 
-abbrev pub defined : Core → Bool → Core
-defined c defines = cond defines (after_redefine c) c
+-- The events of section n's item by its outcome, t being the transaction that was open before it, and these the writes that it commits, or would
+-- commit: a start is a pin; a commit with writes is a commit; the end of a transaction, or of a statement outside one, is a release.
+abbrev pub events_of : ℕ → Option Open → Limited → Outcome → List Event
+events_of n t writes (Defined name at) = []
+events_of n t writes (Began at) = events.Pin n ∷ []
+events_of n t writes (Changed rows at) = alone n t []
+events_of n t writes (ChangedAlone rows from at) = events.Pin n ∷ events.Commit n from writes ∷ events.Release n ∷ []
+events_of n t writes (Committed from at) = events.Commit n from writes ∷ events.Release n ∷ []
+events_of n t writes (CommitEmpty at) = events.Release n ∷ []
+events_of n t writes (RolledBack at) = events.Release n ∷ []
+events_of n t writes (Rows at base names rows) = alone n t []
+events_of n t writes (After name i at) = []
+events_of n t writes (AtByte kind byte) = []
+events_of n t writes AlreadyOpen = []
+events_of n t writes NotOpen = []
+events_of n t writes (Duplicate row at) = alone n t []
+events_of n t writes (TooManyWrites row at) = alone n t []
+events_of n t writes (AtColumn kind row column at) = alone n t []
+events_of n t writes (Conflict table key from at) = refused_commit n t (events.Commit n from writes ∷ [])
+events_of n t writes (LogFull from room) = refused_commit n t (events.Commit n from writes ∷ [])
 
--- the end of a statement outside a transaction, of a transaction, or of a section's last item
-abbrev pub ended : Core → ℕ → Bool → Core
-ended c n ends = cond ends (after_release c n) c
+-- a transaction that is left open by its section's last item ends with that item
+abbrev pub leaving : ℕ → Option Open → Bool → List Event
+leaving n None last = []
+leaving n (Some t) last = cond last (events.Release n ∷ []) []
 
-abbrev pub marked : Core → ℕ → Core
-marked c n = cond (n == 0) c (after_mark c n)
+-- every finished item of a session ends with a mark
+abbrev pub marking : ℕ → List Event
+marking n = cond (n == 0) [] (events.Mark n ∷ [])
 
-abbrev pub acts : Core → ℕ → Bool → List Commit → Bool → Bool → Core
-acts c n starts added defines ends = marked (ended (defined (went c n starts added) defines) n ends) n
+-- The core after an item with these events. An accepted definition is none: it folds everything to a base at the head.
+abbrev pub AfterItem : Shapes → ℕ → Core → List Event → Outcome → Core → Type 0
+AfterItem shapes limit old es (Defined name at) new = new ≡ after_redefine old
+AfterItem shapes limit old es o new = Steps shapes limit old es new
 
 abbrev pub next_item : {K : Type 0} → Script → World K → ℕ → Option Item
 next_item script w n = slice_get (items_of script n) (length (outs_of w.runs n))
 
--- the world after section n answered o
-abbrev pub moved : {K : Type 0} → Script → World K → ℕ → Outcome → List Commit → Session K → World K
-moved script w n o added s = record {
-  core = acts w.core n (is_none (get_or w.runs n no_run).open_ && follows_start o) added (is_definition o) (is_none s.open_ || (length (outs_of w.runs n) + 1 == length (items_of script n)));
-  catalog = s.catalog;
-  runs = slice_set w.runs n (record { outs = outs_of w.runs n ++ o ∷ []; open_ = s.open_ });
-}
+-- section n's next item is its last
+abbrev pub is_last : {K : Type 0} → Script → World K → ℕ → Bool
+is_last script w n = length (outs_of w.runs n) + 1 == length (items_of script n)
+
+-- all events of section n's next item, which answers so and leaves this transaction
+abbrev pub item_events : {K : Type 0} → Script → World K → ℕ → Limited → Outcome → Option Open → List Event
+item_events script w n writes o left = events_of n (session_at w n).open_ writes o ++ (leaving n left (is_last script w n) ++ marking n)
 
 -- section n answered its next item, as the table says of the log so far
 pub record Did {K D C Q X Y : Type 0} (J : Judges K D C Q X Y) (limit : ℕ) (script : Script) (w : World K) (n : ℕ) (w' : World K) : Type 0 where
   pub item : Item
   pub outcome : Outcome
-  pub added : List Commit
+  pub writes : Limited
+  pub limited : writes.limit ≡ J.most_writes
   pub session : Session K
   pub next : next_item script w n ≡ Some item
-  pub judged : Judged J (now limit w.core (outs_of w.runs) added n) n (seen_at w n) (session_at w n) item outcome session
-  pub as_printed : length added ≡ length (printed outcome)
-  pub becomes : w' ≡ moved script w n outcome added session
+  pub judged : Judged J (now limit w.core (outs_of w.runs) writes n) n (seen_at w n) (session_at w n) item outcome session
+  pub core : AfterItem (J.shapes session.catalog) limit w.core (item_events script w n writes outcome session.open_) outcome w'.core
+  pub catalog : w'.catalog ≡ session.catalog
+  pub runs : w'.runs ≡ slice_set w.runs n (record { outs = outs_of w.runs n ++ outcome ∷ []; open_ = session.open_ })
 
 -- section n is finished, or waits for items that are not finished
 abbrev pub IsIdle : {K D C Q X Y : Type 0} → Judges K D C Q X Y → Script → World K → ℕ → Type 0
@@ -171,9 +168,10 @@ setup_turns script = replicate (length (items_of script 0)) 0
 abbrev pub last_turns : Script → List ℕ
 last_turns script = run_out 1 (drop 1 script.sections)
 
-abbrev pub first_world : {K : Type 0} → Script → K → World K
-first_world script catalog = record {
-  core = first_core (length script.sections + 1) (length script.sections);
+-- before the first turn, with so many seats
+abbrev pub first_world : {K : Type 0} → Script → K → ℕ → World K
+first_world script catalog seats = record {
+  core = first_core seats (length script.sections);
   catalog = catalog;
   runs = replicate (length script.sections) no_run;
 }
@@ -194,10 +192,14 @@ transcript_of J script w = record {
   peak = w.core.peak;
 }
 
+-- a seat for each section, and one more
+abbrev pub seats_of : Script → ℕ
+seats_of script = length script.sections + 1
+
 -- the setup's items, then the order, then each section in file order to its end
 pub record Stepped {K D C Q X Y : Type 0} (J : Judges K D C Q X Y) (empty : K) (limit : ℕ) (script : Script) (t : Transcript) : Type 0 where
   pub last : World K
-  pub turns : Turns J limit script (first_world script empty) (setup_turns script ++ (script.order ++ last_turns script)) last
+  pub turns : Turns J limit script (first_world script empty (seats_of script)) (setup_turns script ++ (script.order ++ last_turns script)) last
   pub is_transcript : t ≡ transcript_of J script last
 
 -- WHAT A SCRIPT'S SECTIONS KEEP

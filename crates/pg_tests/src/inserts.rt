@@ -1,5 +1,6 @@
 //! Rows of numbers below zero, which no literal writes, and limits of writes that are soon reached.
 use pg_ast::{Expr, Insert, InsertTuple, Name, Whole};
+use pg_chunks::Chunks;
 use pg_rules::RowFault;
 use pg_value::{ColumnShape, Kind, List, TableNo, TableShape, Text, Value, Writes, print_value};
 use pg_write::{EffectFault, insert_rows, is_plain, writes_fit};
@@ -23,7 +24,7 @@ fn tuple(alloc: Global, number: i128) -> Result<InsertTuple, AllocError> {
     let mut values = List::new(alloc);
     values.push(Whole {
         expr: Expr::Lit {
-            value: Value::Int(number),
+            value: Value::int(number),
             bits: 33,
             at: 0,
         },
@@ -50,9 +51,9 @@ fn insert(alloc: Global, numbers: &[i128]) -> Result<Insert, AllocError> {
 /// The key of each write.
 fn printed(alloc: Global, writes: &Writes) -> Result<Text, AllocError> {
     let mut out = Text::new(alloc);
-    for write in writes.as_slice() {
-        for value in write.key.values.as_slice() {
-            print_value(alloc, value, &mut out)?;
+    for at in 0..writes.len() {
+        for value in writes.at(at).key.values.as_slice() {
+            print_value(value, &mut out)?;
             out.push_ascii(b' ')?;
         }
     }
@@ -99,7 +100,14 @@ fn numbers_below_zero_are_written(rt: HostRuntime) -> Result<(), Fail> {
     for (limit, numbers, want) in CASES {
         let insert = insert(alloc, *numbers)?;
         assert!(rt; is_plain(&insert));
-        match insert_rows(alloc, *limit, TableNo(7), &shape, &[], &insert) {
+        match insert_rows(
+            alloc,
+            *limit,
+            TableNo(7),
+            &shape,
+            &Chunks::new(alloc),
+            &insert,
+        ) {
             Ok(writes) => {
                 let out = printed(alloc, &writes)?;
                 assert!(rt; is_right(Ok(out.as_str()), want));

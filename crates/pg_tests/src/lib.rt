@@ -3,11 +3,17 @@
 #![tactic(auto)]
 
 #[cfg(test)]
+mod adjacency;
+#[cfg(test)]
+mod expressions;
+#[cfg(test)]
 mod inserts;
 #[cfg(test)]
 mod outside;
 #[cfg(test)]
 mod scripts;
+#[cfg(test)]
+mod store;
 #[cfg(test)]
 mod transcripts;
 #[cfg(test)]

@@ -55,19 +55,15 @@ fn names(alloc: Global, of: &[&str]) -> Result<List<Text>, AllocError> {
 }
 
 fn values(alloc: Global, number: i128, of: &str) -> Result<List<Value>, AllocError> {
-    let values = vec![in alloc; Value::Int(number), Value::Text(text(alloc, of)?)]?;
+    let values = vec![in alloc; Value::int(number), Value::Text(text(alloc, of)?)]?;
     Ok(List::from_vec(values))
 }
 
 fn rows(alloc: Global) -> Result<List<Row>, AllocError> {
     let nothing = vec![in alloc; Value::Null]?;
     let rows = vec![in alloc;
-        Row {
-            values: values(alloc, -2, "it's\ntwo lines")?
-        },
-        Row {
-            values: List::from_vec(nothing)
-        },
+        Row::new(alloc, values(alloc, -2, "it's\ntwo lines")?)?,
+        Row::new(alloc, List::from_vec(nothing))?,
     ]?;
     Ok(List::from_vec(rows))
 }
@@ -119,9 +115,7 @@ fn of_others(alloc: Global) -> Result<List<Outcome>, AllocError> {
         Outcome::NotOpen,
         Outcome::Conflict {
             table: text(alloc, "KNOWS")?,
-            key: Key {
-                values: values(alloc, 1, "x")?
-            },
+            key: Key::new(values(alloc, 1, "x")?),
             from: 3,
             at: 4
         },
@@ -137,14 +131,10 @@ fn of_others(alloc: Global) -> Result<List<Outcome>, AllocError> {
 
 /// A write of a table, which puts a row in or takes one away.
 fn write(alloc: Global, table: u32, is_there: bool) -> Result<Write, AllocError> {
-    let row = Row {
-        values: values(alloc, 1, "x")?,
-    };
+    let row = Row::new(alloc, values(alloc, 1, "x")?)?;
     Ok(Write {
         table: TableNo(table),
-        key: Key {
-            values: values(alloc, 1, "x")?,
-        },
+        key: Key::new(values(alloc, 1, "x")?),
         row: if is_there { Some(row) } else { None },
     })
 }

@@ -1,9 +1,10 @@
 -- Texts that get longer, and how they are cut back.
-use Rattle.std.proofs.Common.{◌≡◌, ℕ, List, [], ◌∷◌, ◌++◌, length, take, Bool, true, false, refl, ap, sym, ◌∙◌, append_assoc, if◌then◌else◌}
+use Rattle.std.proofs.Common.{◌≡◌, ℕ, ◌+◌, ◌<◌, slice_set, subst, arith, zero, suc, List, [], ◌∷◌, ◌++◌, length, take, Bool, true, false, refl, ap, sym, ◌∙◌, append_assoc, if◌then◌else◌}
 use Rattle.std.specs.Char.{encode_utf8, IsScalar}
+use Rattle.std.specs.Str.{IsUtf8, IsAscii}
 use Rattle.std.specs.String.Boundary.{IsSplitPoint}
-use Rattle.std.proofs.lemmas.Str.{IsUtf8-nil, IsUtf8-append, IsUtf8-encode, IsCharBoundary-at_seam}
-use Rattle.std.proofs.lemmas.Grind.{flat_map-append}
+use Rattle.std.proofs.lemmas.Str.{IsUtf8-nil, IsUtf8-from_ascii, IsUtf8-append, IsUtf8-encode, IsCharBoundary-at_seam}
+use Rattle.std.proofs.lemmas.Grind.{flat_map-append, take-set_at}
 use Rattle.pg_value.specs.Print.{GoesOn, doubled, doubled_char}
 
 append_nothing : (xs : List ℕ) → xs ≡ xs ++ []
@@ -36,3 +37,13 @@ pub longer : (a b d : List ℕ) (q : ℕ) (cs : List ℕ) (c : ℕ) → b ≡ a 
 longer a b d q cs c e f =
     f ∙ ap (λ xs. xs ++ doubled_char q c) e ∙ append_assoc a (doubled q cs) (doubled_char q c)
     ∙ ap (λ xs. a ++ xs) (sym (flat_map-append (doubled_char q) cs (c ∷ []) ∙ ap (λ xs. doubled q cs ++ xs) (sym (append_nothing (doubled_char q c)))))
+
+one_ascii : (b : ℕ) → b < 128 → IsAscii (b ∷ [])
+one_ascii b a zero = a
+one_ascii b a (suc i) = omega arith
+
+-- a text with one ASCII character more
+pub longer_by_one : (bs : List ℕ) (n i b : ℕ) → b < 128 → i ≡ n → n < length bs → IsUtf8 (take n bs) → IsUtf8 (take (n + 1) (slice_set bs i b))
+longer_by_one bs n i b a e l u =
+    subst (λ k. IsUtf8 (take (n + 1) (slice_set bs k b))) (sym e)
+    (subst IsUtf8 (sym (take-set_at bs n (n + 1) b refl l)) (IsUtf8-append (take n bs) (b ∷ []) u (IsUtf8-from_ascii (b ∷ []) (one_ascii b a))))

@@ -1,3 +1,6 @@
+pub mod Numbers
+pub mod Fixed
+pub mod Keys
 pub mod Order
 pub mod Orders
 pub mod Print
@@ -8,3 +11,5 @@ pub mod Graph
 pub mod Writes
 pub mod TablesLaws
 pub mod Kinds
+pub mod Hashing
+pub mod Texts

@@ -66,8 +66,13 @@ IsOfKind kind (Int n) = kind ≡ kinds.Int
 IsOfKind kind (Text t) = kind ≡ kinds.Text
 IsOfKind kind (BoolV b) = kind ≡ kinds.Bool
 
+-- the column at a place stands, and the value is one of its key
+abbrev pub FitsKeyColumn : List ColumnShape → ℕ → Value → Type 0
+FitsKeyColumn columns c v = (column : ColumnShape) × (slice_get columns c ≡ Some column) × IsOfKind column.kind v
+
+-- one value for each key column; a key place that is no column of the table fits none
 abbrev pub FitsKey : TableShape → Key → Type 0
-FitsKey shape key = AllZip (λ c v. IfSome (slice_get shape.columns c) (λ column. IsOfKind column.kind v)) shape.key key.values
+FitsKey shape key = AllZip (FitsKeyColumn shape.columns) shape.key key.values
 
 -- a row that fits its table and has the key in its key columns
 abbrev pub FitsBoth : TableShape → Key → Row → Type 0

@@ -1,22 +1,46 @@
-//! Rows and keys: their order, and copies of them.
+//! Rows and keys: how they are made, their order, and copies of them.
 ghost use Rattle.std.specs.Prelude.{◌≡◌, IfOk};
 ghost use Rattle.pg_value.specs.Order.{row_cmp, key_cmp};
 
-use crate::value::{copy_value, order_values};
-use crate::{List, Value};
+use crate::value::order_values;
+use crate::{KeyValues, List, Shared, Value};
 use std::alloc::{AllocError, Global};
 use std::cmp::Ordering;
 
-/// The values of a row, one for each column of its table, or for each column of a query's answer.
+/// The values of a row, one for each column of its table, or for each column of a query's answer. They are kept once, and
+/// shared by all copies of the row: a row takes 8 bytes, and its values together 32 on the heap and 24 each.
 #[derive(Drop)]
 pub struct Row {
-    pub values: List<Value>,
+    pub values: Shared<List<Value>>,
 }
 
-/// The values of a row's key columns, in order of the key: 1 to 4, none of them NULL.
+impl Row {
+    /// The row of these values, with no room for more. Only want of memory refuses it.
+    pub fn new(alloc: Global, values: List<Value>) -> Result<Row, AllocError>
+        ensures { IfOk result (λ row. row.values ≡ values) }
+    {
+        Ok(Row {
+            values: Shared::new(alloc, values.without_room())?,
+        })
+    }
+}
+
+/// The values of a row's key columns, in order of the key: 1 to 4, none of them NULL. It takes 32 bytes, and several values
+/// 24 each on the heap.
 #[derive(Drop)]
 pub struct Key {
-    pub values: List<Value>,
+    pub values: KeyValues,
+}
+
+impl Key {
+    /// The key of these values.
+    pub fn new(values: List<Value>) -> Key
+        ensures { result.values ≡ values }
+    {
+        Key {
+            values: KeyValues::from_list(values),
+        }
+    }
 }
 
 /// How two rows are ordered: by the first column that differs, NULL first.
@@ -30,11 +54,11 @@ pub fn order_rows(a: &Row, b: &Row) -> Ordering
 pub fn order_keys(a: &Key, b: &Key) -> Ordering
     ensures { result ≡ key_cmp a.now.values b.now.values }
 {
-    order_lists(a.values.as_slice(), b.values.as_slice())
+    a.values.order(&b.values)
 }
 
 /// How two lists of values are ordered: by the first place at which they differ; the shorter is less where it is a front.
-fn order_lists(a: &[Value], b: &[Value]) -> Ordering
+pub(crate) fn order_lists(a: &[Value], b: &[Value]) -> Ordering
     ensures { result ≡ row_cmp a.now b.now }
 {
     match a {
@@ -52,31 +76,20 @@ fn order_lists(a: &[Value], b: &[Value]) -> Ordering
     }
 }
 
-/// An equal list of values. Only want of memory refuses it.
-fn copy_values(alloc: Global, values: &[Value]) -> Result<List<Value>, AllocError>
-    ensures { IfOk result (λ copy. copy ≡ values.now) }
-{
-    let mut out = List::new(alloc);
-    for value in values {
-        out.push(copy_value(alloc, value)?)?;
-    }
-    Ok(out)
-}
-
-/// An equal row. Only want of memory refuses it.
-pub fn copy_row(alloc: Global, row: &Row) -> Result<Row, AllocError>
+/// An equal row, which shares the values. It takes no memory, and is refused only where 2^63 rows share them.
+pub fn copy_row(row: &Row) -> Result<Row, AllocError>
     ensures { IfOk result (λ copy. copy ≡ row.now) }
 {
     Ok(Row {
-        values: copy_values(alloc, row.values.as_slice())?,
+        values: row.values.share()?,
     })
 }
 
-/// An equal key. Only want of memory refuses it.
+/// An equal key. One number or truth value takes no memory. Only want of memory refuses it.
 pub fn copy_key(alloc: Global, key: &Key) -> Result<Key, AllocError>
     ensures { IfOk result (λ copy. copy ≡ key.now) }
 {
     Ok(Key {
-        values: copy_values(alloc, key.values.as_slice())?,
+        values: key.values.copy(alloc)?,
     })
 }

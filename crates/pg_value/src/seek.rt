@@ -1,44 +1,56 @@
-//! Where a key stands in a list in order of keys: one behind all others is found at once, and any other by halving.
+//! The orders in which rows and writes are kept, and what is sought among them.
 ghost use Rattle.std.specs.Prelude.{◌≡◌, length, slice_index_or, ◌<◌, ◌-◌, IsTrue};
 ghost use Rattle.std.specs.declared.cmp.Ordering.TheVariants.{Less};
 ghost use Rattle.pg_keyed.specs.Keyed.{Ascends, Sought};
 ghost use Rattle.pg_value.specs.Order.{key_cmp, place_cmp};
+ghost use Rattle.pg_value.specs.Orders.{keys, places};
 ghost use Rattle.pg_value.specs.TablesLaws.{key_of};
-ghost use Rattle.pg_value.specs.Writes.{named, IsInOrder};
+ghost use Rattle.pg_value.specs.Writes.{named};
 
-use crate::{Key, Stored, Write, order_keys};
+use crate::{Key, List, Stored, Value, Write, order_keys};
+use pg_chunks::{Keyed, Probe};
 use std::cmp::Ordering;
 
-/// How the places of two writes are ordered: by table, then by key.
-fn order_places(a: &Write, b: &Write) -> Ordering
-    ensures { result ≡ place_cmp (named a.now) (named b.now) }
-{
-    match a.table.0.cmp(&b.table.0) {
-        Ordering::Equal => order_keys(&a.key, &b.key),
-        order => order,
+/// The writes of a transaction are kept in order of table and key.
+impl Keyed for Write {
+    type Key = (u32, List<Value>);
+
+    ghost key_of = { named };
+
+    ghost key_cmp = { place_cmp };
+
+    fn order_item(&self, other: &Write) -> Ordering {
+        match self.table.0.cmp(&other.table.0) {
+            Ordering::Equal => order_keys(&self.key, &other.key),
+            order => order,
+        }
     }
+
+    ghost exact = { places };
 }
 
-/// Whether the last of the writes stands before the place.
-fn are_before_place(writes: &[Write], write: &Write) -> bool
-    ensures { IsTrue result → (d : Write) → 0 < length writes.now → place_cmp (named (slice_index_or writes.now (length writes.now - 1) d)) (named write.now) ≡ Less }
-{
-    match writes {
-        [.., last] => matches!(order_places(last, write), Ordering::Less),
-        [] => true,
+/// The rows of a table are kept in order of their keys.
+impl Keyed for Stored {
+    type Key = List<Value>;
+
+    ghost key_of = { λ s. s.key.values };
+
+    ghost key_cmp = { key_cmp };
+
+    fn order_item(&self, other: &Stored) -> Ordering {
+        order_keys(&self.key, &other.key)
     }
+
+    ghost exact = { keys };
 }
 
-/// Where the write of the same table and key stands, or, as an `Err`, where it would stand. A place behind all others is
-/// found at once, and any other by halving.
-pub fn seek_write(writes: &[Write], write: &Write) -> Result<usize, usize>
-    requires { IsInOrder writes.now }
-    ensures { Sought named place_cmp (named write.now) writes.now result }
-{
-    if are_before_place(writes, write) {
-        return Err(writes.len());
+/// A row is sought by its key.
+impl Probe<Stored> for Key {
+    ghost sought = { λ k. k.values };
+
+    fn order(&self, row: &Stored) -> Ordering {
+        order_keys(&row.key, self)
     }
-    writes.binary_search_by(|other| order_places(other, write))
 }
 
 /// Whether the last of the rows stands before the key.

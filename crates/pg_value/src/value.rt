@@ -1,10 +1,12 @@
 //! Values: their kinds, their order and their printed form.
 ghost use Rattle.std.specs.Prelude.{◌≡◌, ◌++◌, IfOk, OnOk, OnErr};
+ghost use Rattle.pg_value.specs.declared.value.Value.TheVariants.{Int};
 ghost use Rattle.pg_value.specs.Kinds as kinds;
 ghost use Rattle.pg_value.specs.Order.{value_cmp};
 ghost use Rattle.pg_value.specs.Print.{print_of};
 
-use crate::Text;
+use crate::{Number, Text};
+use itoa::Buffer;
 use std::alloc::{AllocError, Global};
 use std::cmp::Ordering;
 
@@ -26,13 +28,23 @@ pub fn same_kind(a: Kind, b: Kind) -> bool
     }
 }
 
-/// A value of SQL, as a column holds it or as an expression gives it. Every kind has NULL.
+/// A value of SQL, as a column holds it or as an expression gives it. Every kind has NULL. It takes 24 bytes, and a text what
+/// it takes on the heap.
 #[derive(Drop)]
 pub enum Value {
     Null,
-    Int(i128),
+    Int(Number),
     Text(Text),
     Bool(bool),
+}
+
+impl Value {
+    /// The value of a number.
+    pub fn int(number: i128) -> Value
+        ensures { result ≡ Int number }
+    {
+        Value::Int(Number::new(number))
+    }
 }
 
 /// A truth value of SQL's three-valued logic (ISO/IEC 9075-2:2023, 8.1).
@@ -72,7 +84,7 @@ pub fn order_values(a: &Value, b: &Value) -> Ordering
         },
         Value::Int(m) => match b {
             Value::Null => Ordering::Greater,
-            Value::Int(n) => m.cmp(n),
+            Value::Int(n) => m.get().cmp(&n.get()),
             _ => Ordering::Less,
         },
         Value::Text(s) => match b {
@@ -93,7 +105,7 @@ pub fn copy_value(alloc: Global, value: &Value) -> Result<Value, AllocError>
 {
     match value {
         Value::Null => Ok(Value::Null),
-        Value::Int(n) => Ok(Value::Int(*n)),
+        Value::Int(n) => Ok(Value::int(n.get())),
         Value::Text(t) => Ok(Value::Text(t.copy(alloc)?)),
         Value::Bool(b) => Ok(Value::Bool(*b)),
     }
@@ -101,13 +113,13 @@ pub fn copy_value(alloc: Global, value: &Value) -> Result<Value, AllocError>
 
 /// Appends the printed form: `NULL`, a number in decimal digits with `-` where it is negative, `TRUE`, `FALSE`, or a text
 /// between `'` with each `'` inside it twice. After want of memory `out` is as before.
-pub fn print_value(alloc: Global, value: &Value, out: &mut Text) -> Result<(), AllocError>
+pub fn print_value(value: &Value, out: &mut Text) -> Result<(), AllocError>
     ensures ok { OnOk result (out.new ≡ out.old ++ print_of value.now) }
     ensures err { OnErr result (out.new ≡ out.old) }
 {
     match value {
         Value::Null => out.push_str("NULL"),
-        Value::Int(n) => out.push_str(format!(in alloc; "{n}")?.as_str()),
+        Value::Int(n) => out.push_str(Buffer::new().format(n.get())),
         Value::Text(t) => out.push_quoted(t.as_str(), '\''),
         Value::Bool(true) => out.push_str("TRUE"),
         Value::Bool(false) => out.push_str("FALSE"),

@@ -31,7 +31,7 @@ use Rattle.pg_write.specs.declared.fault.EffectFault.{EffectFault}
 use Rattle.pg_write.specs.declared.fault.EffectFault.TheVariants as effect
 use Rattle.pg_write.specs.PlainInsert.{Holds, Writes, Refuses, rows_of}
 use Rattle.pg_rules.specs.Changes.PlainInsert.{is_plain}
-use Rattle.pg_write.specs.FaultyRows.{is_there, limit_fault, put_fault, fault_behind, or_first, first_faulty, IsFirst, literal_row}
+use Rattle.pg_write.specs.FaultyRows.{limit_fault, put_fault, fault_behind, or_first, first_faulty, IsFirst, literal_row}
 use Rattle.pg_write.proofs.Loops.{drop_at}
 use Rattle.pg_write.proofs.RowLaws.{plain_rows}
 
@@ -197,14 +197,6 @@ fits limit writes w g a (inr l) =
 pub full : (limit : ℕ) (writes : List Write) (w : Write) → is_some (write_at (named w) writes) ≡ false → IsInOrder writes → limit ≤ length writes → limit_fault limit writes w ≡ Some faults.TooManyWrites
 full limit writes w g a l =
     ap (λ b. cond b (Some faults.TooManyWrites) None) (lt-ltb limit (length (merge writes (w ∷ []))) (omega (arith, longer writes w a (nothing_of (write_at (named w) writes) g))))
-
--- a key that is not there has no write
-pub no_write : (held : List Stored) (writes : List Write) (w : Write) → is_there held writes w ≡ false → is_some (write_at (named w) writes) ≡ false
-no_write held writes w h = right_of (is_some (stored_in w.key.values held)) (is_some (write_at (named w) writes)) h
-
--- and no fault but that of the limit
-pub only_limit : (limit : ℕ) (held : List Stored) (writes : List Write) (w : Write) → is_there held writes w ≡ false → limit_fault limit writes w ≡ put_fault limit held writes w
-only_limit limit held writes w h = sym (ap (λ b. or_else (cond b (Some faults.Duplicate) None) (limit_fault limit writes w)) h)
 
 pub when_full : (old new : Limited) (w back : Write) (e : PutFault) → e ≡ Full back → Put old new w (Err e) → old.limit ≤ length old.list
 when_full old new w back e q h = (subst (λ x. Put old new w (Err x)) q h).3

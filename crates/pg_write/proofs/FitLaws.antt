@@ -1,6 +1,6 @@
 -- The law that what an INSERT of literals writes fits: its values have their columns' kinds, and no row has a fault.
 use Rattle.std.proofs.Common.{ℕ, zero, suc, ◌≡◌, ◌+◌, ◌<◌, Bool, true, false, cond, refl, ap, sym, subst, ◌∙◌, List, [], ◌∷◌, ◌++◌, map, length, get_or, arith, inl, inr, eq-eqb}
-use Rattle.std.specs.Prelude.{ℤ, pos, negsuc, ◌≤ℤ◌, not, ◌==◌, ◌||◌, is_none, is_some, slice_get, IfSome, nat_lt}
+use Rattle.std.specs.Prelude.{ℤ, pos, negsuc, ◌≤ℤ◌, not, ◌==◌, ◌||◌, is_none, is_some, slice_get, nat_lt}
 use Rattle.std.specs.declared.option.Option.{Option}
 use Rattle.std.specs.declared.option.Option.TheVariants.{Some, None}
 use Rattle.std.specs.Option.{option_map, option_and_then, unwrap_or}
@@ -10,7 +10,7 @@ use Rattle.std.proofs.lemmas.Int.{ints}
 use Rattle.std.proofs.lemmas.List.{length-map}
 use Rattle.std.proofs.lemmas.List.FromFn.{length-range_with_len, length-map-range_with_len, get_or-map-range_with_len}
 use Rattle.std.proofs.lemmas.Option.{none-some, same_Some, slice_get-map, slice_get_within, get_or_from_slice_get}
-use Rattle.pg_keyed.specs.Lists.{Each, Among, each_of}
+use Rattle.pg_keyed.specs.Lists.{Each, Among, each_among, each_of}
 use Rattle.pg_keyed.specs.Puts.{merge_each}
 use Rattle.pg_value.specs.Order.{place_cmp}
 use Rattle.pg_value.specs.Orders.{places}
@@ -25,7 +25,7 @@ use Rattle.pg_value.specs.declared.shape.ColumnShape.{ColumnShape}
 use Rattle.pg_value.specs.declared.shape.TableShape.{TableShape}
 use Rattle.pg_value.specs.declared.shape.Shapes.{Shapes}
 use Rattle.pg_value.specs.declared.write.Write.{Write}
-use Rattle.pg_value.specs.Tables.{pick, FitsColumn, FitsRow, FitsKey, IsOfKind, FitsWrite, FitWrites}
+use Rattle.pg_value.specs.Tables.{pick, FitsColumn, FitsRow, FitsKeyColumn, FitsKey, IsOfKind, FitsWrite, FitWrites}
 use Rattle.pg_ast.specs.declared.expr.Whole.{Whole}
 use Rattle.pg_ast.specs.declared.statement.Insert.{Insert}
 use Rattle.pg_ast.specs.declared.statement.InsertTuple.{InsertTuple}
@@ -38,7 +38,8 @@ use Rattle.pg_rules.specs.declared.fault.RowFault.TheVariants as faults
 use Rattle.pg_ast.specs.Trees.{ExprTree, tree_of, Literal, Wide, ColumnOf, PropertyOf, One, Two, Group, Counted}
 use Rattle.pg_rules.specs.Catalog.{Tables, Defined}
 use Rattle.pg_rules.specs.Catalog.LookUps.{table_in, columns_named, columns_in}
-use Rattle.pg_rules.specs.Catalog.Shapes.{shapes, table_shape}
+use Rattle.pg_rules.specs.Catalog.Shapes.{shapes, table_shape, table_shapes}
+use Rattle.pg_rules.specs.Catalog.Sound.{IsKeyColumn, IsSoundTable}
 use Rattle.pg_rules.specs.Places.{place_if, first_fault, fault_at, least, sooner}
 use Rattle.pg_rules.specs.Definitions.Entries.{kind_at, kind_in}
 use Rattle.pg_rules.specs.Definitions.Graphs.{no_such}
@@ -69,10 +70,6 @@ there : {X : Type 0} (xs : List X) (i : ℕ) → i < length xs → (x : X) × (s
 there [] i h = absurd (omega arith)
 there (x ∷ xs) zero h = (x, refl)
 there (x ∷ xs) (suc i) h = there xs i (omega arith)
-
-if_some : {X : Type 0} (o : Option X) (P : X → Type 0) → ((x : X) → o ≡ Some x → P x) → IfSome o P
-if_some None P h = tt
-if_some (Some x) P h = h x refl
 
 -- NO FAULT
 
@@ -240,6 +237,25 @@ picked : (P : ℕ → Value → Type 0) (ks : List ℕ) (vs : List Value) → Ea
 picked P [] vs h = tt
 picked P (k ∷ ks) vs h = (h.0, picked P ks vs h.1)
 
+-- A KEY
+
+-- the column at a place of the key stands
+abbrev Stands : TableShape → ℕ → Type 0
+Stands shape k = (c : ColumnShape) × (slice_get shape.columns k ≡ Some c)
+
+keys_in : (columns : List ColumnEntry) (ks : List ℕ) → Each (IsKeyColumn columns) ks → Each (λ k. (c : ColumnShape) × (slice_get (map (λ (e : ColumnEntry). e.shape) columns) k ≡ Some c)) ks
+keys_in columns [] h = tt
+keys_in columns (k ∷ ks) h = (
+  (h.0.column.shape, slice_get-map (λ (e : ColumnEntry). e.shape) columns k ∙ ap (option_map (λ (e : ColumnEntry). e.shape)) h.0.stands),
+  keys_in columns ks h.1,
+)
+
+-- in a sound catalog each does
+keys_stand : (tables : Tables) (t : ℕ) (shape : TableShape) → Each (λ (x : List ℕ × TableEntry). IsSoundTable x.1) tables → slice_get (table_shapes tables) t ≡ Some shape → Each (Stands shape) shape.key
+keys_stand [] t shape s at = absurd (none-some shape at)
+keys_stand (x ∷ tables) zero shape s at = subst (λ (y : TableShape). Each (Stands y) y.key) (same_Some (table_shape x.1) shape at) (keys_in x.1.columns x.1.key s.0.key)
+keys_stand (x ∷ tables) (suc t) shape s at = keys_stand tables t shape s.1 at
+
 -- A ROW
 
 module _ (shape : TableShape) (columns : List ColumnEntry) (same : map (λ (e : ColumnEntry). e.shape) columns ≡ shape.columns) (t : InsertTuple) (plain : has_literals t ≡ true)
@@ -289,17 +305,17 @@ module _ (shape : TableShape) (columns : List ColumnEntry) (same : map (λ (e : 
         let n : null_fault true c v.0 k ≡ None = ap (λ b. null_fault b c v.0 k) (sym (key_is shape.key k a)) ∙ (no_fault k c v.0 e v.1).0 in
         subst (IsOfKind c.kind) (sym (get_or_from_slice_get row.values k v.0 Null v.1)) (of_kind c v.0 k n (kind_fits k c v.0 e v.1))
 
-    key_fits : FitsKey shape (record { values = pick shape.key row.values })
-    key_fits = picked (λ k v. IfSome (slice_get shape.columns k) (λ c. IsOfKind c.kind v)) shape.key row.values
-        (each_of (λ k. IfSome (slice_get shape.columns k) (λ c. IsOfKind c.kind (get_or row.values k Null))) shape.key
-        (λ k a. if_some (slice_get shape.columns k) (λ c. IsOfKind c.kind (get_or row.values k Null)) (key_value k a)))
+    key_fits : Each (Stands shape) shape.key → FitsKey shape (record { values = pick shape.key row.values })
+    key_fits keys = picked (FitsKeyColumn shape.columns) shape.key row.values
+        (each_of (λ k. FitsKeyColumn shape.columns k (get_or row.values k Null)) shape.key
+        (λ k a. (let c = each_among (Stands shape) k shape.key keys a in (c.0, c.1, key_value k a c.0 c.1))))
 
-    write_fits : (all : Shapes) (table : TableNo) → slice_get all.tables table.0 ≡ Some shape → FitsWrite all (write_of table shape row)
-    write_fits all table at = (shape, at, key_fits, (row_fits, refl))
+    write_fits : (all : Shapes) (table : TableNo) → slice_get all.tables table.0 ≡ Some shape → Each (Stands shape) shape.key → FitsWrite all (write_of table shape row)
+    write_fits all table at keys = (shape, at, key_fits keys, (row_fits, refl))
 
 -- ALL ROWS
 
-module _ (all : Shapes) (table : TableNo) (shape : TableShape) (at : slice_get all.tables table.0 ≡ Some shape) where
+module _ (all : Shapes) (table : TableNo) (shape : TableShape) (at : slice_get all.tables table.0 ≡ Some shape) (keys : Each (Stands shape) shape.key) where
   abbrev Fits : Row → Type 0
   Fits row = FitsWrite all (write_of table shape row)
 
@@ -310,7 +326,7 @@ module _ (all : Shapes) (table : TableNo) (shape : TableShape) (at : slice_get a
   rows_fit columns same [] plain as_many typed right = tt
   rows_fit columns same (t ∷ ts) plain as_many typed right =
       let p = and_parts (has_literals t) (list_all has_literals ts) plain in
-      (write_fits shape columns same t p.0 as_many.0 typed.0 right.0 all table at, rows_fit columns same ts p.1 as_many.1 typed.1 right.1)
+      (write_fits shape columns same t p.0 as_many.0 typed.0 right.0 all table at keys, rows_fit columns same ts p.1 as_many.1 typed.1 right.1)
 
   written_fit : (writes : List Write) (rows : List Row) → FitWrites all writes → Each Fits rows → FitWrites all (with_rows table shape writes rows)
   written_fit writes [] h f = h
@@ -370,8 +386,8 @@ counted n [] h = tt
 counted n (t ∷ ts) h = (eqb-true (length t.values) n (place_none (length t.values == n) t.at h.0), counted n ts h.1)
 
 pub writes_fit : WritesFit
-writes_fit d i writes judged made = subst (FitWrites (shapes d)) (sym made.written.written)
-    (written_fit (shapes d) table shape made.shape_at [] (rows_of shape i) tt fitting)
+writes_fit d i writes sound judged made = subst (FitWrites (shapes d)) (sym made.written.written)
+    (written_fit (shapes d) table shape made.shape_at keys [] (rows_of shape i) tt fitting)
   where
     table : TableNo
     table = table_of d i
@@ -403,5 +419,8 @@ writes_fit d i writes judged made = subst (FitWrites (shapes d)) (sym made.writt
     right = each_cut (λ row. column_fault shape 0 shape.columns row.values ≡ None) (rows_of shape i)
         (λ front back row e. (or_none (column_fault shape 0 shape.columns row.values) _ (made.written.right made.tables made.holds front back row e)).0)
 
-    fitting : Each (Fits (shapes d) table shape made.shape_at) (rows_of shape i)
-    fitting = rows_fit (shapes d) table shape made.shape_at columns (columns_are d i shape no_place.0 made.shape_at) i.tuples parts.1 as_many typed right
+    keys : Each (Stands shape) shape.key
+    keys = keys_stand d.0 table.0 shape sound.tables made.shape_at
+
+    fitting : Each (Fits (shapes d) table shape made.shape_at keys) (rows_of shape i)
+    fitting = rows_fit (shapes d) table shape made.shape_at keys columns (columns_are d i shape no_place.0 made.shape_at) i.tuples parts.1 as_many typed right

@@ -5,3 +5,6 @@ mod ValueLaws
 mod RowLaws
 mod EffectLaws
 pub mod FitLaws
+pub mod Missing
+pub mod VerdictLaws
+pub mod TargetLaws

@@ -11,7 +11,6 @@ use Rattle.pg_value.specs.Tables.{Stored, Tables, IsInOrder, held_in}
 use Rattle.pg_ast.specs.declared.statement.Insert.{Insert}
 use Rattle.pg_rules.specs.declared.fault.ResolveFault.{ResolveFault}
 use Rattle.pg_rules.specs.declared.fault.ResolveFault.TheVariants as faults
-use Rattle.pg_ast.specs.Trees.{Wide}
 use Rattle.pg_rules.specs.Changes.InsertJudgement.{resolved_tuple}
 use Rattle.pg_rules.specs.Changes.InsertEffect.{row_of, with_rows, AreRight, IsFirstFault}
 use Rattle.pg_write.specs.declared.fault.EffectFault.{EffectFault}

@@ -8,6 +8,7 @@ use Rattle.pg_value.specs.Tables.{Stored, Tables, FitWrites}
 use Rattle.pg_ast.specs.declared.statement.Insert.{Insert}
 use Rattle.pg_rules.specs.Catalog.{Defined}
 use Rattle.pg_rules.specs.Catalog.Shapes.{shapes}
+use Rattle.pg_rules.specs.Catalog.Sound.{IsSound}
 use Rattle.pg_rules.specs.Definitions.Entries.{number_of}
 use Rattle.pg_rules.specs.Changes.InsertJudgement.{insert_fault}
 use Rattle.pg_rules.specs.Changes.PlainInsert.{is_plain}
@@ -32,6 +33,6 @@ pub record AreWritten (d : Defined) (i : Insert) (writes : List Write) : Type 0 
   pub holds : Holds (table_of d i) held tables
   pub written : Writes limit (table_of d i) shape held (rows_of shape i) writes
 
--- they fit the tables that are defined
+-- Where the catalog is sound, as every catalog is, they fit the tables that are defined: of a key place that is no column nothing would fit.
 abbrev pub WritesFit : Type 0
-WritesFit = (d : Defined) (i : Insert) (writes : List Write) → IsResolved d i → AreWritten d i writes → FitWrites (shapes d) writes
+WritesFit = (d : Defined) (i : Insert) (writes : List Write) → IsSound d → IsResolved d i → AreWritten d i writes → FitWrites (shapes d) writes

@@ -24,7 +24,7 @@ fn size_fault(column: &ColumnShape, value: &Value, place: u32) -> Option<RowFaul
 {
     match value {
         Value::Int(number) => {
-            if is_integer(*number) {
+            if is_integer(number.get()) {
                 None
             } else {
                 Some(RowFault::Range { column: place })

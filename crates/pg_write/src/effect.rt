@@ -1,8 +1,5 @@
 //! The writes of an INSERT of literals over the rows of its table, or its first faulty row.
 ghost use Rattle.std.specs.Prelude.{◌≡◌, ◌↔◌, ◌<◌, ◌^◌, ◌∷◌, [], true, None, length, map, IsTrue, IfOk, IfErr, OnOk};
-ghost use Rattle.pg_keyed.specs.Keyed.{Ascends};
-ghost use Rattle.pg_value.specs.Order.{key_cmp};
-ghost use Rattle.pg_value.specs.TablesLaws.{key_of};
 ghost use Rattle.pg_value.specs.Writes.{merge};
 ghost use Rattle.pg_rules.specs.Changes.InsertEffect.{write_of, with_rows};
 ghost use Rattle.pg_rules.specs.Changes.PlainInsert.{is_plain};
@@ -14,6 +11,7 @@ use crate::column::column_fault;
 use crate::put::put_new;
 use crate::row::{key_of, literal_row};
 use pg_ast::{Insert, InsertTuple};
+use pg_chunks::Chunks;
 use pg_rules::RowFault;
 use pg_value::{Stored, TableNo, TableShape, Write, Writes};
 use std::alloc::{AllocError, Global};
@@ -23,12 +21,11 @@ fn insert_tuple(
     alloc: Global,
     table: TableNo,
     shape: &TableShape,
-    held: &[Stored],
+    held: &Chunks<Stored>,
     tuple: &InsertTuple,
     writes: &mut Writes,
 ) -> Result<Option<RowFault>, AllocError>
     requires few { length shape.now.columns < 2 ^ 32 }
-    requires ascends { Ascends key_of key_cmp held.now }
     ensures fault { IfOk result (λ f. f ≡ passes.fault_behind writes.old.limit table shape.now held.now writes.old.list (passes.literal_row shape.now tuple.now)) }
     ensures put { IfOk result (λ f. f ≡ None → writes.new.list ≡ merge writes.old.list (write_of table shape.now (passes.literal_row shape.now tuple.now) ∷ [])) }
     ensures limit { writes.new.limit ≡ writes.old.limit }
@@ -51,12 +48,11 @@ fn insert_tuples(
     alloc: Global,
     table: TableNo,
     shape: &TableShape,
-    held: &[Stored],
+    held: &Chunks<Stored>,
     tuples: &[InsertTuple],
     writes: &mut Writes,
 ) -> Result<(), EffectFault>
     requires few { length shape.now.columns < 2 ^ 32 }
-    requires ascends { Ascends key_of key_cmp held.now }
     ensures right { IfOk result (λ _. passes.first_faulty writes.old.limit table shape.now held.now writes.old.list 0 (map (passes.literal_row shape.now) tuples.now) ≡ None) }
     ensures written { OnOk result (writes.new.list ≡ with_rows table shape.now writes.old.list (map (passes.literal_row shape.now) tuples.now)) }
     ensures fault { IfErr result (passes.IsFirst (passes.first_faulty writes.old.limit table shape.now held.now writes.old.list 0 (map (passes.literal_row shape.now) tuples.now))) }
@@ -84,7 +80,7 @@ fn is_narrow(shape: &TableShape) -> bool
     shape.columns.len() <= u32::MAX as usize
 }
 
-/// The writes of an INSERT of literals into a table of that shape that holds these rows, in order of their keys, or its first
+/// The writes of an INSERT of literals into a table of that shape that holds these rows, or its first
 /// faulty row. In a row the columns are tested first, in their order: NullKey comes exactly where a key column's value is
 /// NULL, NullNotAllowed where that of another NOT NULL column is, Range where a number is no INTEGER, and TooLong where a
 /// text has more bytes than its column may hold. Then Duplicate comes exactly where the key is held or stands in an earlier
@@ -95,11 +91,10 @@ pub fn insert_rows(
     limit: u64,
     table: TableNo,
     shape: &TableShape,
-    held: &[Stored],
+    held: &Chunks<Stored>,
     insert: &Insert,
 ) -> Result<Writes, EffectFault>
     requires plain { is_plain insert.now ≡ true }
-    requires ascends { Ascends key_of key_cmp held.now }
     requires held { spec.IsHeld table held.now }
     ensures written { IfOk result (λ w. spec.Writes limit table shape.now held.now (spec.rows_of shape.now insert.now) w.list) }
     ensures fault { IfErr result (spec.Refuses limit table shape.now held.now (spec.rows_of shape.now insert.now)) }

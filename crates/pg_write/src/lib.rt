@@ -2,6 +2,7 @@
 //! tables, and the writes that it makes, or its first faulty row.
 #![tactic(auto)]
 
+mod change;
 mod column;
 mod effect;
 mod fault;
@@ -11,6 +12,7 @@ mod put;
 mod resolve;
 mod row;
 
+pub use change::resolve::{resolve_change, resolve_delete, resolve_update, resolve_values};
 pub use effect::insert_rows;
 pub use fault::EffectFault;
 pub use laws::writes_fit;

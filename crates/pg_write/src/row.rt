@@ -30,18 +30,11 @@ fn value_at(alloc: Global, values: &[Whole], place: usize) -> Result<Value, Allo
     }
 }
 
-/// No values, with room for some.
-fn empty_row(alloc: Global, columns: usize) -> Result<List<Value>, AllocError>
-    ensures { IfOk result (λ row. row ≡ []) }
-{
-    Ok(List::from_vec(Vec::with_capacity(alloc, columns)?))
-}
-
 /// As many values of a tuple as there are columns.
 fn values_of(alloc: Global, columns: usize, values: &[Whole]) -> Result<List<Value>, AllocError>
     ensures { IfOk result (λ row. row ≡ map (spec.value_at values.now) (range_with_len 0 columns)) }
 {
-    let mut out = empty_row(alloc, columns)?;
+    let mut out = List::with_room(alloc, columns)?;
     for place in 0..columns {
         out.push(value_at(alloc, values, place)?)?;
     }
@@ -56,9 +49,10 @@ pub fn literal_row(
 ) -> Result<Row, AllocError>
     ensures { IfOk result (λ row. row ≡ spec.literal_row shape.now tuple.now) }
 {
-    Ok(Row {
-        values: values_of(alloc, shape.columns.len(), tuple.values.as_slice())?,
-    })
+    Row::new(
+        alloc,
+        values_of(alloc, shape.columns.len(), tuple.values.as_slice())?,
+    )
 }
 
 /// A copy of the value at a place, NULL where there is none.
@@ -75,7 +69,7 @@ fn copy_at(alloc: Global, values: &[Value], place: usize) -> Result<Value, Alloc
 fn pick(alloc: Global, columns: &[u32], values: &[Value]) -> Result<List<Value>, AllocError>
     ensures { IfOk result (λ picked. picked ≡ pick columns.now values.now) }
 {
-    let mut out = empty_row(alloc, columns.len())?;
+    let mut out = List::with_room(alloc, columns.len())?;
     for column in columns {
         out.push(copy_at(alloc, values, *column as usize)?)?;
     }
@@ -86,7 +80,5 @@ fn pick(alloc: Global, columns: &[u32], values: &[Value]) -> Result<List<Value>,
 pub fn key_of(alloc: Global, shape: &TableShape, row: &Row) -> Result<Key, AllocError>
     ensures { IfOk result (λ key. key.values ≡ pick shape.now.key row.now.values) }
 {
-    Ok(Key {
-        values: pick(alloc, shape.key.as_slice(), row.values.as_slice())?,
-    })
+    Ok(Key::new(pick(alloc, shape.key.as_slice(), row.values.as_slice())?))
 }

@@ -5,3 +5,5 @@ pub mod Inserts
 pub mod Outcomes
 pub mod Queries
 pub mod SoundGraphs
+pub mod AdmittedTables
+pub mod OneHopForm

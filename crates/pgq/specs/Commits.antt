@@ -10,6 +10,7 @@ use Rattle.pg_script.specs.declared.outcome.Outcome.TheVariants.{Changed, Change
 use Rattle.pg_script.specs.Judged.{IsCommit}
 use Rattle.pgq.specs.declared.engine.Engine.{Engine}
 use Rattle.pg_session.specs.Core.{base_after}
+use Rattle.pg_language.specs.Language.{most_transaction_writes}
 use Rattle.pgq.specs.Engine.{most_log_writes, peak_after}
 
 -- the write gives a row
@@ -33,6 +34,7 @@ pub record IsAppended (commit : Commit) (e e' : Engine) : Type 0 where
 pub record IsCommitted (n : ℕ) (e : Engine) (ws : List Write) (e' : Engine) : Type 0 where
   pub commit : Commit
   pub is : IsCommit commit n (length e.log) ws
+  pub limit : commit.writes.limit ≡ most_transaction_writes
   pub catalog : e'.catalog ≡ e.catalog
   pub log : e'.log ≡ e.log ++ commit ∷ []
   pub base : e'.base ≡ base_after e.base (length e.log)

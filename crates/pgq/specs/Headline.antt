@@ -10,7 +10,8 @@ use Rattle.pg_script.specs.declared.fault.ScriptKind.{ScriptKind}
 use Rattle.pg_script.specs.Script.{most_bytes, IsScript, IsScriptFault}
 use Rattle.pgq.specs.Bytes.{ReadsAll, ReadsSome, TookFront}
 use Rattle.pgq.specs.Words.{HasForm, HasNoForm}
-use Rattle.pgq.specs.Sections.{IsRun}
+use Rattle.pgq.specs.Sections.{IsStepped}
+use Rattle.pgq.specs.declared.words.Form.{Form}
 use Rattle.pgq.specs.declared.words.Form.TheVariants.{Step}
 use Rattle.pgq.specs.declared.step.NoText.{NoText}
 use Rattle.pgq.specs.declared.step.NoText.TheVariants as no_text
@@ -19,20 +20,24 @@ use Rattle.pgq.specs.declared.status.Status.TheVariants.{Done, BadScript, BadWor
 
 -- WHAT THE BYTES ARE
 
--- the transcript is of the script which these bytes are, and which has at most one session: of its stepped run, which is legal
-pub record IsRunOf (bytes : List ℕ) (t : Transcript) : Type 0 where
+-- What a form makes of a script is a relation between scripts and their transcripts: that the transcript is legal, that it is legal and the stepped
+-- run's, or another. The definitions below take it as a parameter.
+abbrev pub Relation : Type 1
+Relation = Script → Transcript → Type 0
+
+-- the transcript is of the script which these bytes are, as the form makes one
+pub record IsRunOf (makes : Relation) (bytes : List ℕ) (t : Transcript) : Type 0 where
   pub script : Script
   pub is_script : IsScript bytes script
-  pub one_session : length script.sections ≤ 2
-  pub run : IsRun script t
+  pub run : makes script t
 
--- the text is that of a transcript of the script's run
-abbrev pub IsTextOfRun : Script → List ℕ → Type 0
-IsTextOfRun script text = (t : Transcript) × IsRun script t × (text ≡ text_of t)
+-- the text is that of a transcript that the form makes of the script
+abbrev pub IsTextOfRun : Relation → Script → List ℕ → Type 0
+IsTextOfRun makes script text = (t : Transcript) × makes script t × (text ≡ text_of t)
 
 -- the text is that of such a transcript
-abbrev pub IsTextOf : List ℕ → List ℕ → Type 0
-IsTextOf bytes text = (t : Transcript) × IsRunOf bytes t × (text ≡ text_of t)
+abbrev pub IsTextOf : Relation → List ℕ → List ℕ → Type 0
+IsTextOf makes bytes text = (t : Transcript) × IsRunOf makes bytes t × (text ≡ text_of t)
 
 -- the bytes are a script of two or more sessions
 abbrev pub HasSessions : List ℕ → Type 0
@@ -46,12 +51,12 @@ IsNoText bytes no_text.Memory = Unit {0}
 
 -- WHAT WAS READ
 
--- the source was read to its end, and the text is one of what was read
-pub record LegalRun (before after : Option (List ℕ)) (text : List ℕ) : Type 0 where
+-- the source was read to its end, and the text is that of a transcript of what was read, as the form makes one
+pub record ReadsRun (makes : Relation) (before after : Option (List ℕ)) (text : List ℕ) : Type 0 where
   pub bytes : List ℕ
   pub read : ReadsAll most_bytes before after bytes
   pub short : length bytes ≤ most_bytes
-  pub is_text : IsTextOf bytes text
+  pub is_text : IsTextOf makes bytes text
 
 -- the source was read to its end, and the bytes are a script of two or more sessions, which is not run yet
 pub record ReadsNoRun (before after : Option (List ℕ)) : Type 0 where
@@ -74,15 +79,19 @@ module _ (left left' : Option (List ℕ)) (read_faults read_faults' : ℕ) (held
     pub no_read_fault : read_faults' ≡ read_faults
     pub no_write_fault : write_faults' ≡ write_faults
 
-  -- `step`: what was read and written, and why, by the status
-  abbrev pub StepMeans : Status → Type 0
-  StepMeans Done = (text : List ℕ) × LegalRun left left' text × Appends held held' text × HasNoFault
-  StepMeans (BadScript line kind) = ReadsNoScript left left' line kind × Keeps held held' × HasNoFault
-  StepMeans BadWords = ⊥
-  StepMeans ReadFault = Rose read_faults read_faults' × (write_faults' ≡ write_faults) × ReadsSome most_bytes left left' × Keeps held held'
-  StepMeans WriteFault = Rose write_faults write_faults' × (read_faults' ≡ read_faults) × ((text : List ℕ) × LegalRun left left' text × TookFront held held' text)
-  StepMeans Memory = ReadsSome most_bytes left left' × Keeps held held' × HasNoFault
-  StepMeans NotYet = ReadsNoRun left left' × Keeps held held' × HasNoFault
+  -- a form that reads a script and writes the text of a transcript: what was read and written, and why, by the status
+  abbrev pub TranscriptMeans : Relation → Status → Type 0
+  TranscriptMeans makes Done = (text : List ℕ) × ReadsRun makes left left' text × Appends held held' text × HasNoFault
+  TranscriptMeans makes (BadScript line kind) = ReadsNoScript left left' line kind × Keeps held held' × HasNoFault
+  TranscriptMeans makes BadWords = ⊥
+  TranscriptMeans makes ReadFault = Rose read_faults read_faults' × (write_faults' ≡ write_faults) × ReadsSome most_bytes left left' × Keeps held held'
+  TranscriptMeans makes WriteFault = Rose write_faults write_faults' × (read_faults' ≡ read_faults) × ((text : List ℕ) × ReadsRun makes left left' text × TookFront held held' text)
+  TranscriptMeans makes Memory = ReadsSome most_bytes left left' × Keeps held held' × HasNoFault
+  TranscriptMeans makes NotYet = ReadsNoRun left left' × Keeps held held' × HasNoFault
+
+  -- what each form of the words does
+  abbrev pub FormMeans : Form → Status → Type 0
+  FormMeans Step status = TranscriptMeans IsStepped status
 
   -- nothing was read or written, and no fault came
   pub record Untouched : Type 0 where
@@ -91,7 +100,7 @@ module _ (left left' : Option (List ℕ)) (read_faults read_faults' : ℕ) (held
     pub kept_held : Keeps held held'
     pub same_write_faults : write_faults' ≡ write_faults
 
-  -- the program: bad words exactly where the words have no form, and else what the form does
+  -- the program: bad words exactly where the words have no form, and else what their form does
   abbrev pub TopMeans : List (List ℕ) → Status → Type 0
   TopMeans words BadWords = HasNoForm words × Untouched
-  TopMeans words status = HasForm Step words × StepMeans status
+  TopMeans words status = (form : Form) × HasForm form words × FormMeans form status

@@ -8,3 +8,4 @@ pub mod Definitions
 pub mod Insertions
 pub mod Commits
 pub mod Refusals
+pub mod OneHop

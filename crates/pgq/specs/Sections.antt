@@ -1,5 +1,5 @@
 -- A section's items answered one after another, and the run of a script of a setup and at most one session.
-use Rattle.std.specs.Prelude.{ℕ, ◌≡◌, ◌+◌, ◌==◌, ◌≤◌, ◌<◌, ◌^◌, Bool, false, cond, List, [], ◌∷◌, map, length, replicate, get_or, slice_set}
+use Rattle.std.specs.Prelude.{ℕ, ◌≡◌, ◌+◌, ◌≤◌, ◌<◌, ◌^◌, Bool, false, List, [], ◌∷◌, map, length, replicate, get_or, slice_set}
 use Rattle.std.specs.declared.option.Option.TheVariants.{None}
 use Rattle.std.specs.List.{AllZip}
 use Rattle.pg_rules.specs.Catalog.{Defined}
@@ -17,14 +17,10 @@ use Rattle.pgq.specs.declared.engine.Engine.{Engine}
 use Rattle.pg_session.specs.Stepped.{World, Run, no_run, Turns, section_outs, Stepped}
 use Rattle.pg_lex.specs.Parts.{IsPartAt}
 use Rattle.pg_language.specs.Language.{language}
-use Rattle.pgq.specs.Engine.{most_log_writes, core_of}
+use Rattle.pgq.specs.Engine.{most_log_writes, core_of, counts_then, CanCount}
 
 abbrev pub world : ℕ → List ℕ → List Run → Engine → World Defined
 world sections counts runs e = record { core = core_of sections counts e; catalog = e.catalog; runs = runs }
-
--- how many items each session has finished, when section n has finished k more; the setup's are not counted
-abbrev pub counts_then : ℕ → ℕ → List ℕ → List ℕ
-counts_then n k counts = cond (n == 0) counts (slice_set counts n (get_or counts n 0 + k))
 
 -- what a section has answered, with no transaction open
 abbrev pub closed : List Outcome → Run
@@ -34,16 +30,16 @@ closed outs = record { outs = outs; open_ = None }
 abbrev pub runs_then : ℕ → List Outcome → List Run → List Run
 runs_then n outs runs = slice_set runs n (closed outs)
 
--- Items of section n, from its first on, have answered so: in every script whose section n is these items, by as many turns of a
--- stepped run from any world in which the section has answered nothing.
-abbrev pub HasAnswered : List ℕ → ℕ → List Item → Engine → List Outcome → Engine → Type 0
-HasAnswered text n items e outs e' =
-    (script : Script) (sections : ℕ) (counts : List ℕ) (runs : List Run) → items_of script n ≡ items → n < length runs → n ≤ sections → length counts ≡ sections + 1 → get_or runs n no_run ≡ no_run
-    → Turns (language text) most_log_writes script (world sections counts runs e) (replicate (length outs) n) (world sections (counts_then n (length outs) counts) (runs_then n outs runs) e')
+-- Items of a script's section n, from its first on, have answered so: where the section's items are these, by as many turns of a stepped run from any
+-- world in which the section has answered nothing.
+abbrev pub HasAnswered : Script → ℕ → List Item → Engine → List Outcome → Engine → Type 0
+HasAnswered script n items e outs e' =
+    (sections : ℕ) (counts : List ℕ) (runs : List Run) → items_of script n ≡ items → n < length runs → CanCount sections counts n (length items) → get_or runs n no_run ≡ no_run
+    → Turns (language script) most_log_writes script (world sections counts runs e) (replicate (length outs) n) (world sections (counts_then n (length outs) counts) (runs_then n outs runs) e')
 
 -- a section's items have all been answered
 pub record IsWhole (script : Script) (n : ℕ) (e : Engine) (outs : List Outcome) (e' : Engine) : Type 0 where
-  pub answered : HasAnswered script.text n (items_of script n) e outs e'
+  pub answered : HasAnswered script n (items_of script n) e outs e'
   pub all : length outs ≡ length (items_of script n)
 
 -- the transcript of a script whose sections have answered so
@@ -96,9 +92,19 @@ pub record IsRunnable (script : Script) : Type 0 where
   pub some : 0 < length script.sections
   pub few : length script.sections ≤ 2
   pub statements : Each (λ (s : Section). Each (IsStatementIn script.text) s.items) script.sections
+  pub few_items : (n : ℕ) → length (items_of script n) < 2 ^ 32
   pub order : Each (λ n. (0 < n) × (n < length script.sections)) script.order
 
--- the run of a script, which is a stepped run and legal
+-- the transcript is legal
+abbrev pub IsLegal : Script → Transcript → Type 0
+IsLegal script t = Legal (language script) nothing most_log_writes script t
+
+-- the transcript is the stepped run's, and legal
 pub record IsRun (script : Script) (t : Transcript) : Type 0 where
-  pub stepped : Stepped (language script.text) nothing most_log_writes script t
-  pub legal : Legal (language script.text) nothing most_log_writes script t
+  pub stepped : Stepped (language script) nothing most_log_writes script t
+  pub legal : IsLegal script t
+
+-- what `step` makes today: the run of a script of at most one session
+pub record IsStepped (script : Script) (t : Transcript) : Type 0 where
+  pub one_session : length script.sections ≤ 2
+  pub run : IsRun script t

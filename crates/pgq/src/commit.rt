@@ -6,12 +6,15 @@ ghost use Rattle.pg_value.specs.Log.{held};
 ghost use Rattle.pg_value.specs.TablesLaws.{key_of, key_named, put_in};
 ghost use Rattle.pg_session.specs.Core.{base_after};
 ghost use Rattle.pgq.specs.Engine.{IsReady, most_log_writes, peak_after};
+ghost use Rattle.pg_language.specs.Language.{most_transaction_writes};
 ghost use Rattle.pgq.specs.Commits.{HasRow, IsRowOf, IsAppended, IsCommitted, HasEnded};
+ghost use Rattle.pg_value.specs.Tables.{FitWrites};
 
 use crate::engine::Engine;
 use crate::rows::put_rows;
+use pg_chunks::Chunks;
 use pg_script::Outcome;
-use pg_value::{Commit, List, Stored, TableNo, Write, Writes};
+use pg_value::{Commit, Stored, TableNo, Writes};
 use std::alloc::{AllocError, Global};
 
 /// How many writes the log may hold.
@@ -47,15 +50,15 @@ fn peak_after(base: u64, found: u64, peak: (u64, u64)) -> (u64, u64)
 /// Puts the rows of writes among those of their table.
 fn put_in_table(
     alloc: Global,
-    tables: &mut Vec<List<Stored>>,
+    tables: &mut Vec<Chunks<Stored>>,
     table: TableNo,
-    writes: &[Write],
+    writes: &Writes,
 ) -> Result<(), AllocError>
     requires within { table.0 < length tables.old.items }
     requires ascends { Ascends key_of key_cmp (get_or tables.old.items table.0 []) }
-    requires writes { Ascends key_named key_cmp writes.now }
-    requires present { Each HasRow writes.now }
-    ensures { OnOk result (tables.new.items ≡ slice_set tables.old.items table.0 (put_in (get_or tables.old.items table.0 []) writes.now)) }
+    requires writes { Ascends key_named key_cmp writes.now.list }
+    requires present { Each HasRow writes.now.list }
+    ensures { OnOk result (tables.new.items ≡ slice_set tables.old.items table.0 (put_in (get_or tables.old.items table.0 []) writes.now.list)) }
 {
     put_rows(alloc, &mut tables[table.0 as usize], writes)
 }
@@ -87,6 +90,8 @@ fn accept(
     requires ready { IsReady engine.old }
     requires table { table.0 < length engine.old.tables.items }
     requires rows { Each (IsRowOf table) writes.list }
+    requires limit { writes.limit ≡ most_transaction_writes }
+    requires fits { FitWrites engine.old.shapes writes.list }
     requires room { held engine.old.log + length writes.list ≤ most_log_writes }
     ensures ready { OnOk result (IsReady engine.new) }
     ensures committed { OnOk result (IsCommitted section engine.old writes.list engine.new) }
@@ -94,7 +99,7 @@ fn accept(
 {
     let rows = writes.len();
     let from = engine.log.len() as u64;
-    put_in_table(alloc, &mut engine.tables, table, writes.as_slice())?;
+    put_in_table(alloc, &mut engine.tables, table, &writes)?;
     let commit = Commit {
         session: section,
         from,
@@ -118,6 +123,8 @@ pub fn commit(
     requires ready { IsReady engine.old }
     requires table { table.0 < length engine.old.tables.items }
     requires rows { Each (IsRowOf table) writes.list }
+    requires limit { writes.limit ≡ most_transaction_writes }
+    requires fits { FitWrites engine.old.shapes writes.list }
     ensures ready { OnOk result (IsReady engine.new) }
     ensures ended { IfOk result (λ o. HasEnded section engine.old writes.list o engine.new) }
 {

@@ -8,8 +8,9 @@ ghost use Rattle.pg_language.specs.Language.{name_of};
 use crate::engine::Engine;
 use crate::refusal::{define_refusal, told};
 use pg_ast::Define;
+use pg_chunks::Chunks;
 use pg_script::{FaultKind, Outcome};
-use pg_value::{List, Stored, Text};
+use pg_value::{Stored, Text};
 use std::alloc::{AllocError, Global};
 
 /// The name of what is defined.
@@ -25,14 +26,14 @@ fn name_of(alloc: Global, definition: &Define) -> Result<Text, AllocError>
 /// Makes room for the rows of what is defined.
 fn add_table(
     alloc: Global,
-    tables: &mut Vec<List<Stored>>,
+    tables: &mut Vec<Chunks<Stored>>,
     definition: &Define,
 ) -> Result<(), AllocError>
     ensures { OnOk result (tables.new.items ≡ tables_then definition.now tables.old.items) }
 {
     match definition {
         Define::Table(_) => {
-            tables.push(List::new(alloc))?;
+            tables.push(Chunks::new(alloc))?;
             Ok(())
         }
         Define::Graph(_) => Ok(()),

@@ -2,6 +2,7 @@
 ghost use Rattle.pgq.specs.Engine.{IsFirst, IsReady};
 
 use pg_catalog::Catalog;
+use pg_chunks::Chunks;
 use pg_value::{Commit, List, Shapes, Stored};
 use std::alloc::Global;
 
@@ -13,7 +14,7 @@ use std::alloc::Global;
 pub struct Engine {
     pub catalog: Catalog,
     pub shapes: Shapes,
-    pub tables: Vec<List<Stored>>,
+    pub tables: Vec<Chunks<Stored>>,
     pub log: List<Commit>,
     pub held: u64,
     pub base: u64,

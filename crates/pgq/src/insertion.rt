@@ -5,7 +5,7 @@ ghost use Rattle.pg_rules.specs.Changes.InsertJudgement.{insert_fault};
 ghost use Rattle.pg_script.specs.Judged.{Changes, refused};
 ghost use Rattle.pg_rules.specs.Changes.PlainInsert.{is_plain};
 ghost use Rattle.pgq.specs.Engine.{IsReady, AnswersTo};
-ghost use Rattle.pg_language.specs.Language.{refusal_of, column_called};
+ghost use Rattle.pg_language.specs.Language.{refusal_of, column_called, most_transaction_writes};
 ghost use Rattle.pgq.specs.Insertions.{IsTableOf, HasRows, HasNoRows};
 
 use crate::commit::commit;
@@ -16,7 +16,7 @@ use pg_catalog::Catalog;
 use pg_rules::RowFault;
 use pg_script::{ColumnFault, Outcome};
 use pg_value::{TableNo, Text, Writes};
-use pg_write::{EffectFault, insert_rows, resolve_insert};
+use pg_write::{EffectFault, insert_rows, resolve_insert, writes_fit};
 use std::alloc::{AllocError, Global};
 
 /// How many writes one transaction may have.
@@ -33,11 +33,12 @@ fn writes_of(
     requires ready { IsReady engine.now }
     requires table { IsTableOf engine.now insert.now table }
     ensures written { IfOk result (λ w. HasRows engine.now insert.now table w.list) }
+    ensures limit { IfOk result (λ w. w.limit ≡ most_transaction_writes) }
     ensures fault { IfErr result (HasNoRows engine.now insert.now table) }
 {
     let at = table.0 as usize;
     let shape = engine.shapes.tables.at(at);
-    let held = engine.tables[at].as_slice();
+    let held = &engine.tables[at];
     insert_rows(alloc, MOST_TRANSACTION_WRITES, table, shape, held, insert)
 }
 
@@ -127,6 +128,8 @@ fn insert_into(
     ensures ready { OnOk result (IsReady engine.new) }
     ensures answers { IfOk result (λ o. AnswersTo (Changes insert.now) section engine.old o engine.new) }
 {
+    engine.catalog.soundness();
+    writes_fit();
     match writes_of(alloc, engine, table, insert) {
         Ok(writes) => commit(alloc, engine, section, table, writes),
         Err(EffectFault::Row { row, fault }) => row_refusal(alloc, engine, table, row, fault),

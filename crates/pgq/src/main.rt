@@ -9,7 +9,7 @@ mod commit;
 mod definition;
 mod engine;
 mod insertion;
-mod language;
+mod one_hop;
 mod refusal;
 mod rows;
 mod run;

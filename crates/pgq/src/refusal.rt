@@ -1,9 +1,9 @@
 //! How statements that are refused before they read the tables are answered.
 ghost use Rattle.std.specs.Prelude.{◌≡◌, None, IfOk, OnErr};
-ghost use Rattle.pg_language.specs.Language.{define_refusal, resolve_refusal, check_refusal};
+ghost use Rattle.pg_language.specs.Language.{define_refusal, resolve_refusal, query_refusal};
 ghost use Rattle.pgq.specs.Refusals.{IsTold};
 
-use pg_rules::{CheckFault, DefineFault, ResolveFault};
+use pg_rules::{DefineFault, QueryFault, ResolveFault};
 use pg_script::{FaultKind, Outcome};
 use std::alloc::AllocError;
 
@@ -52,14 +52,30 @@ pub fn resolve_refusal(fault: ResolveFault) -> Option<(FaultKind, u32)>
 }
 
 /// The kind and the place of a query's fault; want of memory has none.
-pub fn check_refusal(fault: CheckFault) -> Option<(FaultKind, u32)>
-    ensures { result ≡ check_refusal fault }
+pub fn query_refusal(fault: QueryFault) -> Option<(FaultKind, u32)>
+    ensures { result ≡ query_refusal fault }
 {
     match fault {
-        CheckFault::NoGraph { at } => Some((FaultKind::NoGraph, at)),
-        CheckFault::NoProperty { at } => Some((FaultKind::NoProperty, at)),
-        CheckFault::BadVariable { at } => Some((FaultKind::BadVariable, at)),
-        CheckFault::Limit { at } => Some((FaultKind::Limit, at)),
-        CheckFault::Memory => None,
+        QueryFault::NoGraph { at } => Some((FaultKind::NoGraph, at)),
+        QueryFault::NoLabel { at } => Some((FaultKind::NoLabel, at)),
+        QueryFault::NoProperty { at } => Some((FaultKind::NoProperty, at)),
+        QueryFault::Unbounded { at } => Some((FaultKind::Unbounded, at)),
+        QueryFault::Bounds { at } => Some((FaultKind::Bounds, at)),
+        QueryFault::BadVariable { at } => Some((FaultKind::BadVariable, at)),
+        QueryFault::GroupUse { at } => Some((FaultKind::GroupUse, at)),
+        QueryFault::Types { at } => Some((FaultKind::Types, at)),
+        QueryFault::Wide { at } => Some((FaultKind::Wide, at)),
+        QueryFault::Limit { at } => Some((FaultKind::Limit, at)),
+        QueryFault::Memory => None,
+    }
+}
+
+/// The answer of a statement that is not run yet, and begins at a place.
+pub fn not_yet(at: u32) -> Outcome
+    ensures { result ≡ Outcome.AtByte FaultKind.NotYet at }
+{
+    Outcome::AtByte {
+        kind: FaultKind::NotYet,
+        byte: at,
     }
 }

@@ -7,19 +7,20 @@ ghost use Rattle.pg_value.specs.Log.{row_given};
 ghost use Rattle.pg_value.specs.TablesLaws.{key_of, key_named, put_in};
 ghost use Rattle.pgq.specs.Commits.{HasRow};
 
-use pg_value::{List, Stored, Write, copy_key, copy_row, seek_row};
+use pg_chunks::Chunks;
+use pg_value::{Stored, Write, Writes, copy_key, copy_row};
 use std::alloc::{AllocError, Global};
 
 /// Puts the rows of writes among the rows of their table, by their keys: a row of the same key is replaced. A key behind all
 /// others is found at once, and any other by halving. After want of memory some of them are put and the others are not.
-pub fn put_rows(alloc: Global, rows: &mut List<Stored>, writes: &[Write]) -> Result<(), AllocError>
+pub fn put_rows(alloc: Global, rows: &mut Chunks<Stored>, writes: &Writes) -> Result<(), AllocError>
     requires ascends { Ascends key_of key_cmp rows.old }
-    requires writes { Ascends key_named key_cmp writes.now }
-    requires present { Each HasRow writes.now }
-    ensures { OnOk result (rows.new ≡ put_in rows.old writes.now) }
+    requires writes { Ascends key_named key_cmp writes.now.list }
+    requires present { Each HasRow writes.now.list }
+    ensures { OnOk result (rows.new ≡ put_in rows.old writes.now.list) }
 {
-    for write in writes {
-        match put_row(alloc, rows, write) {
+    for at in 0..writes.len() {
+        match put_row(alloc, rows, writes.at(at)) {
             Ok(()) => {}
             Err(failed) => return Err(failed),
         }
@@ -28,22 +29,13 @@ pub fn put_rows(alloc: Global, rows: &mut List<Stored>, writes: &[Write]) -> Res
 }
 
 /// Puts one row among the rows of its table, by its key.
-fn put_row(alloc: Global, rows: &mut List<Stored>, write: &Write) -> Result<(), AllocError>
-    requires ascends { Ascends key_of key_cmp rows.old }
-    requires present { HasRow write.now }
+fn put_row(alloc: Global, rows: &mut Chunks<Stored>, write: &Write) -> Result<(), AllocError>
+    requires { HasRow write.now }
     ensures { OnOk result (rows.new ≡ put_in rows.old (write.now ∷ [])) }
 {
     let stored = stored(alloc, write)?;
-    match seek_row(rows.as_slice(), &write.key) {
-        Ok(at) => {
-            rows.set(at, stored);
-            Ok(())
-        }
-        Err(at) => match rows.insert(at, stored) {
-            Ok(()) => Ok(()),
-            Err(_) => Err(AllocError),
-        },
-    }
+    rows.put(stored)?;
+    Ok(())
 }
 
 /// The row that a write gives, beside its key.
@@ -55,7 +47,7 @@ fn stored(alloc: Global, write: &Write) -> Result<Stored, AllocError>
         Some(row) => Ok(Stored {
             table: write.table,
             key: copy_key(alloc, &write.key)?,
-            row: copy_row(alloc, row)?,
+            row: copy_row(row)?,
         }),
         None => unreachable!(),
     }

@@ -8,9 +8,9 @@ ghost use Rattle.pgq.specs.Sections.{IsStatementIn, IsRunnable, HasAnswered, IsR
 ghost use Rattle.pgq.specs.Sections.{HasRunSection, HaveRun};
 
 use crate::engine::Engine;
-use crate::language::Statements;
 use crate::statement::answer;
 use pg_catalog::Catalog;
+use pg_language::Statements;
 use pg_script::{Item, Outcome, Script, Section, SectionOut, Transcript};
 use pg_session::stepped_runs_are_legal;
 use pg_value::{List, TableNo, Text};
@@ -19,19 +19,19 @@ use std::alloc::{AllocError, Global};
 /// Answers one item of a section, which is a statement.
 fn answer_item(
     alloc: Global,
-    text: &Text,
+    script: &Script,
     engine: &mut Engine,
     section: u32,
     item: &Item,
 ) -> Result<Outcome, AllocError>
-    requires length { length text.now < 2 ^ 32 }
-    requires statement { IsStatementIn text.now item.now }
+    requires length { length script.now.text < 2 ^ 32 }
+    requires statement { IsStatementIn script.now.text item.now }
     requires ready { IsReady engine.old }
     ensures ready { OnOk result (IsReady engine.new) }
-    ensures answers { IfOk result (λ o. Answers text.now section engine.old item.now o engine.new) }
+    ensures answers { IfOk result (λ o. Answers script.now section engine.old item.now o engine.new) }
 {
     match *item {
-        Item::Sql { from, to } => answer(alloc, text, engine, section, from, to),
+        Item::Sql { from, to } => answer(alloc, script, engine, section, from, to),
         Item::After { .. } => unreachable!(),
     }
 }
@@ -39,21 +39,21 @@ fn answer_item(
 /// Answers the items of a section in order.
 fn answer_items(
     alloc: Global,
-    text: &Text,
+    script: &Script,
     engine: &mut Engine,
     section: u32,
     items: &[Item],
 ) -> Result<List<Outcome>, AllocError>
-    requires length { length text.now < 2 ^ 32 }
-    requires statements { Each (IsStatementIn text.now) items.now }
+    requires length { length script.now.text < 2 ^ 32 }
+    requires statements { Each (IsStatementIn script.now.text) items.now }
     requires ready { IsReady engine.old }
     ensures ready { OnOk result (IsReady engine.new) }
-    ensures answered { IfOk result (λ outs. HasAnswered text.now section items.now engine.old outs engine.new) }
+    ensures answered { IfOk result (λ outs. HasAnswered script.now section items.now engine.old outs engine.new) }
     ensures all { IfOk result (λ outs. length outs ≡ length items.now) }
 {
     let mut outcomes = List::new(alloc);
     'items: for item in items {
-        match answer_item(alloc, text, engine, section, item) {
+        match answer_item(alloc, script, engine, section, item) {
             Ok(outcome) => match outcomes.push(outcome) {
                 Ok(()) => {}
                 Err(failed) => return Err(failed),
@@ -79,13 +79,7 @@ fn run_section(
     ensures run { IfOk result (λ out. HasRunSection script.now number section.now engine.old out engine.new) }
 {
     let name = section.name.copy(alloc)?;
-    let outcomes = answer_items(
-        alloc,
-        &script.text,
-        engine,
-        number,
-        section.items.as_slice(),
-    )?;
+    let outcomes = answer_items(alloc, script, engine, number, section.items.as_slice())?;
     Ok(SectionOut {
         name,
         outcomes,

@@ -3,29 +3,18 @@ ghost use Rattle.std.specs.Prelude.{◌≡◌, ◌<◌, ◌^◌, length, IfOk, O
 ghost use Rattle.pg_script.specs.declared.script.Item.TheVariants.{Sql};
 ghost use Rattle.pg_lex.specs.Parts.{IsPartAt};
 ghost use Rattle.pgq.specs.Engine.{IsReady, Answers, AnswersTo};
-ghost use Rattle.pg_language.specs.Language.{says, says_insert, says_query, reading_of};
+ghost use Rattle.pg_language.specs.Language.{says, says_insert, reading_of};
 
 use crate::asking::ask;
 use crate::definition::define;
 use crate::engine::Engine;
 use crate::insertion::insert;
-use pg_ast::{Insert, Query, Statement};
-use pg_check::is_one_hop;
-use pg_script::{FaultKind, Outcome};
+use crate::refusal::not_yet;
+use pg_ast::{Insert, Statement};
+use pg_script::{FaultKind, Outcome, Script};
 use pg_sql::{Parsed, read_statement};
-use pg_value::Text;
 use pg_write::is_plain;
 use std::alloc::{AllocError, Global};
-
-/// The answer of a statement that is not run yet.
-fn not_yet(at: u32) -> Outcome
-    ensures { result ≡ Outcome.AtByte FaultKind.NotYet at }
-{
-    Outcome::AtByte {
-        kind: FaultKind::NotYet,
-        byte: at,
-    }
-}
 
 /// Carries out an INSERT that begins at a place, or refuses it there where it is not run yet.
 fn run_insert(
@@ -46,24 +35,6 @@ fn run_insert(
     }
 }
 
-/// Answers a query that begins at a place, or refuses it there where it is not run yet.
-fn run_query(
-    alloc: Global,
-    engine: &Engine,
-    section: u32,
-    query: &Query,
-    at: u32,
-) -> Result<Outcome, AllocError>
-    requires { IsReady engine.now }
-    ensures { IfOk result (λ o. AnswersTo (says_query at query.now) section engine.now o engine.now) }
-{
-    if is_one_hop(query) {
-        ask(alloc, engine, section, query)
-    } else {
-        Ok(not_yet(at))
-    }
-}
-
 /// Carries out a statement that begins at a place, or refuses it there where it is not run yet.
 fn carry_out(
     alloc: Global,
@@ -79,7 +50,7 @@ fn carry_out(
     match tree {
         Statement::Define(definition) => define(alloc, engine, section, definition, at),
         Statement::Insert(insert) => run_insert(alloc, engine, section, insert, at),
-        Statement::Query(query) => run_query(alloc, engine, section, query, at),
+        Statement::Query(query) => ask(alloc, engine, section, query, at),
         Statement::Update(_) => Ok(not_yet(at)),
         Statement::Delete(_) => Ok(not_yet(at)),
         Statement::Begin => Ok(not_yet(at)),
@@ -108,23 +79,23 @@ fn answer_parsed(
     }
 }
 
-/// Answers the statement of a section from one place of the text up to another: Syntax at the first token that no statement
+/// Answers the statement of a section from one place of the script's text up to another: Syntax at the first token that no statement
 /// continues, NotYet at its first token where it is not run yet, and else by the catalog, the tables and the log. After want
 /// of memory the engine is of no use.
 pub fn answer(
     alloc: Global,
-    text: &Text,
+    script: &Script,
     engine: &mut Engine,
     section: u32,
     from: u32,
     to: u32,
 ) -> Result<Outcome, AllocError>
-    requires length { length text.now < 2 ^ 32 }
-    requires part { IsPartAt text.now from to }
+    requires length { length script.now.text < 2 ^ 32 }
+    requires part { IsPartAt script.now.text from to }
     requires ready { IsReady engine.old }
     ensures ready { OnOk result (IsReady engine.new) }
-    ensures answers { IfOk result (λ o. Answers text.now section engine.old (Sql from to) o engine.new) }
+    ensures answers { IfOk result (λ o. Answers script.now section engine.old (Sql from to) o engine.new) }
 {
-    let parsed = read_statement(alloc, text, from, to)?;
+    let parsed = read_statement(alloc, &script.text, from, to)?;
     answer_parsed(alloc, engine, section, &parsed)
 }

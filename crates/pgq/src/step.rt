@@ -1,8 +1,8 @@
 //! A stepped run from source to sink.
 ghost use Rattle.std.specs.Prelude.{◌≡◌, ◌≤◌, IfOk, IfErr};
 ghost use Rattle.pgq.specs.declared.step.NoText.TheVariants as no_text;
-ghost use Rattle.pgq.specs.Headline.{StepMeans, IsTextOfRun, IsTextOf, IsNoText};
-ghost use Rattle.pgq.specs.Sections.{IsRunnable};
+ghost use Rattle.pgq.specs.Headline.{TranscriptMeans, IsTextOfRun, IsTextOf, IsNoText};
+ghost use Rattle.pgq.specs.Sections.{IsRunnable, IsRun, IsStepped};
 
 use crate::bytes::{ReadError, read_all, write_all};
 use crate::run::run;
@@ -35,7 +35,7 @@ impl From<AllocError> for NoText {
 /// The text of the transcript of a script that runs.
 fn script_text(alloc: Global, script: &Script) -> Result<Text, AllocError>
     requires { IsRunnable script.now }
-    ensures { IfOk result (IsTextOfRun script.now) }
+    ensures { IfOk result (IsTextOfRun IsRun script.now) }
 {
     let transcript = run(alloc, script)?;
     print(alloc, &transcript)
@@ -44,7 +44,7 @@ fn script_text(alloc: Global, script: &Script) -> Result<Text, AllocError>
 /// The text of the transcript of the script that these bytes are.
 #[tactic(auto, using(crate::proofs::Runs::Runnable::is_runnable, crate::proofs::Runs::Runnable::is_text))]
 fn transcript_text(alloc: Global, bytes: &[u8]) -> Result<Text, NoText>
-    ensures text { IfOk result (IsTextOf bytes.now) }
+    ensures text { IfOk result (IsTextOf IsStepped bytes.now) }
     ensures none { IfErr result (IsNoText bytes.now) }
 {
     let script = match split(alloc, bytes) {
@@ -63,8 +63,8 @@ fn transcript_text(alloc: Global, bytes: &[u8]) -> Result<Text, NoText>
 /// Reads a script from the source, runs its statements one after another, and writes the text of its transcript to the sink. It waits for
 /// nobody. At most 16,777,217 bytes are read, and the whole text is made before the first write.
 pub fn stepped<I: Source, O: Sink>(alloc: Global, source: &mut I, sink: &mut O) -> Status
-    ensures means { StepMeans (I.left source.old) (I.left source.new) (I.faults source.old) (I.faults source.new)
-        (O.held sink.old) (O.held sink.new) (O.faults sink.old) (O.faults sink.new) result }
+    ensures means { TranscriptMeans (I.left source.old) (I.left source.new) (I.faults source.old) (I.faults source.new)
+        (O.held sink.old) (O.held sink.new) (O.faults sink.old) (O.faults sink.new) IsStepped result }
     ensures later_reads { I.faults source.old ≤ I.faults source.new }
     ensures later_writes { O.faults sink.old ≤ O.faults sink.new }
 {

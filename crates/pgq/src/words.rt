@@ -31,7 +31,7 @@ fn texts(alloc: Global, mut strings: Args) -> Result<List<Text>, AllocError>
 {
     let mut texts = List::new(alloc);
     'strings: while let Some(string) = strings.next() {
-        texts.push(Text::from_string(string))?;
+        texts.push(Text::from_string(alloc, string)?)?;
     }
     Ok(texts)
 }

@@ -19,7 +19,7 @@ use std::marker::Model;
 
 impl<'a> NameSet<'a> {
     /// Adds the names of some labels.
-    fn add_label_names(&mut self, labels: &'a [LabelEntry]) -> Result<(), AllocError>
+    pub(crate) fn add_label_names(&mut self, labels: &'a [LabelEntry]) -> Result<(), AllocError>
         ensures { OnOk result (self.new ≡ add_all self.old (map (λ l. l.name) labels.now)) }
     {
         for label in labels {

@@ -9,7 +9,7 @@ use pg_rules::{ColumnEntry, TableEntry};
 use pg_value::{ColumnShape, Kind, List, Text};
 use std::alloc::{AllocError, Global};
 
-/// The place of a column.
+/// The place of a column among the columns of a table; None exactly where none has the name.
 pub fn column_place(columns: &[ColumnEntry], name: &Text) -> Option<u32>
     requires { IsFew columns.now }
     ensures { result ≡ look.column_place columns.now name.now }

@@ -79,7 +79,7 @@ no_item test (y ∷ xs) x h c = elim (in_cons y xs x c) [
 
 -- NAMES
 
-true_false : true ≡ false → ⊥
+pub true_false : true ≡ false → ⊥
 true_false e = cc
 
 pub same_bytes : (a b : List ℕ) → bytes_eq a b ≡ true → a ≡ b

@@ -19,6 +19,7 @@ use Rattle.pg_script.specs.Legal.{no_section, items_of}
 use Rattle.pg_lex.specs.Parts.{IsPartAt}
 use Rattle.pg_script.specs.Whole.{ItemsArePlaced, ScriptsAreWhole}
 use Rattle.pg_script.proofs.Whole.Boundaries.{CutsAt, cut_before, cut_after, begins_with, some_before, gap_cut}
+use Rattle.pg_script.proofs.Whole.Counts.{few_items}
 use Rattle.pg_script.proofs.Whole.Orders.{order_of_sessions}
 
 -- A STATEMENT
@@ -193,4 +194,4 @@ items_are_placed bytes script h n k from to e =
     subst (λ (l : List ℕ). IsPartAt l from to) (sym h.text) p
 
 pub scripts_whole : ScriptsAreWhole
-scripts_whole bytes script h = (items_are_placed bytes script h, order_of_sessions bytes script h)
+scripts_whole bytes script h = (items_are_placed bytes script h, order_of_sessions bytes script h, few_items bytes script h)

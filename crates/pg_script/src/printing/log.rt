@@ -5,7 +5,7 @@ ghost use Rattle.pg_script.specs.Text.{commit_text, commits_text, log_text, make
 
 use super::Printer;
 use crate::{SectionOut, Transcript};
-use pg_value::{Commit, Key, Text, Write};
+use pg_value::{Commit, Key, Text, Write, Writes};
 use std::alloc::AllocError;
 
 impl Printer {
@@ -14,8 +14,7 @@ impl Printer {
         ensures { OnOk result (self.new ≡ self.old ++ log_text transcript.now) }
     {
         self.text.push_str("@log ")?;
-        self.text
-            .push_number(self.alloc, transcript.log.len() as u64)?;
+        self.text.push_number(transcript.log.len() as u64)?;
         self.text.push_str("\n")?;
         self.push_commits(
             transcript.sections.as_slice(),
@@ -49,7 +48,7 @@ impl Printer {
     ) -> Result<(), AllocError>
         ensures { OnOk result (self.new ≡ self.old ++ numbered_commit_text sections.now tables.now number commit.now) }
     {
-        self.text.push_number(self.alloc, number)?;
+        self.text.push_number(number)?;
         self.text.push_str(" ")?;
         self.push_commit(sections, tables, commit)
     }
@@ -65,7 +64,7 @@ impl Printer {
     {
         self.push_maker(sections, commit.session)?;
         self.push_from(commit.from)?;
-        self.push_writes(tables, commit.writes.as_slice())
+        self.push_writes(tables, &commit.writes)
     }
 
     /// Appends what made a commit: `setup` for section 0, else the section's name, as it is.
@@ -117,11 +116,11 @@ impl Printer {
     }
 
     /// Appends a line for each write.
-    fn push_writes(&mut self, tables: &[Text], writes: &[Write]) -> Result<(), AllocError>
-        ensures { OnOk result (self.new ≡ self.old ++ flat_map (write_line tables.now) writes.now) }
+    fn push_writes(&mut self, tables: &[Text], writes: &Writes) -> Result<(), AllocError>
+        ensures { OnOk result (self.new ≡ self.old ++ flat_map (write_line tables.now) writes.now.list) }
     {
-        for write in writes {
-            self.push_write(tables, write)?;
+        for at in 0..writes.len() {
+            self.push_write(tables, writes.at(at))?;
         }
         Ok(())
     }

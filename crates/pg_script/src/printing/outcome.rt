@@ -24,7 +24,7 @@ impl Printer {
     fn push_numbered(&mut self, number: u64, outcome: &Outcome) -> Result<(), AllocError>
         ensures { OnOk result (self.new ≡ self.old ++ numbered_text number outcome.now) }
     {
-        self.text.push_number(self.alloc, number)?;
+        self.text.push_number(number)?;
         self.text.push_str(" ")?;
         self.push_outcome(outcome)
     }
@@ -86,22 +86,24 @@ impl Printer {
     fn push_version(&mut self, word: &str, at: u64) -> Result<(), AllocError>
         ensures { OnOk result (self.new ≡ self.old ++ line (word.now ++ at_text at)) }
     {
-        self.text
-            .push_str(format!(in self.alloc; "{word} at {at}\n")?.as_str())
+        self.text.push_str(word)?;
+        self.push_at(at)
     }
 
     /// Appends `changed N at K`.
     fn push_changed(&mut self, rows: u64, at: u64) -> Result<(), AllocError>
         ensures { OnOk result (self.new ≡ self.old ++ outcome_text (Changed rows at)) }
     {
-        self.text.push_str(format!(in self.alloc; "changed {rows} at {at}\n")?.as_str())
+        self.push_number_behind("changed ", rows)?;
+        self.push_at(at)
     }
 
     /// Appends `changed N from K at C`.
     fn push_changed_alone(&mut self, rows: u64, from: u64, at: u64) -> Result<(), AllocError>
         ensures { OnOk result (self.new ≡ self.old ++ outcome_text (ChangedAlone rows from at)) }
     {
-        self.text.push_str(format!(in self.alloc; "changed {rows} from {from} at {at}\n")?.as_str())
+        self.push_number_behind("changed ", rows)?;
+        self.push_from_at(from, at)
     }
 
     /// Appends `commit from K at C`.
@@ -131,7 +133,10 @@ impl Printer {
     fn push_counted(&mut self, rows: u64, at: u64, base: u64) -> Result<(), AllocError>
         ensures { OnOk result (self.new ≡ self.old ++ counted_line rows at base) }
     {
-        self.text.push_str(format!(in self.alloc; "rows {rows} at {at} base {base}\n")?.as_str())
+        self.push_number_behind("rows ", rows)?;
+        self.push_number_behind(" at ", at)?;
+        self.push_number_behind(" base ", base)?;
+        self.text.push_str("\n")
     }
 
     /// Appends `:` and the columns' names.

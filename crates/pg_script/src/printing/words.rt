@@ -1,5 +1,6 @@
 //! The parts of a line: names, values, keys and rows, and the numbers behind their words.
 ghost use Rattle.std.specs.Prelude.{◌≡◌, ◌++◌, OnOk, map};
+ghost use Rattle.std.specs.Fmt.{decimal};
 ghost use Rattle.std.specs.List.{list_all};
 ghost use Rattle.pg_script.specs.Text as spec;
 ghost use Rattle.pg_script.specs.Text.{listed, name_text, place_text, tuple_text, values_text, at_text, from_text, line};
@@ -42,9 +43,9 @@ impl Printer {
     {
         match values {
             [] => Ok(()),
-            [value] => print_value(self.alloc, value, &mut self.text),
+            [value] => print_value(value, &mut self.text),
             [value, more @ ..] => {
-                print_value(self.alloc, value, &mut self.text)?;
+                print_value(value, &mut self.text)?;
                 self.text.push_str(", ")?;
                 self.push_values(more)
             }
@@ -69,28 +70,36 @@ impl Printer {
         self.push_tuple(key.values.as_slice())
     }
 
+    /// Appends words and a number behind them.
+    pub fn push_number_behind(&mut self, words: &str, number: u64) -> Result<(), AllocError>
+        ensures { OnOk result (self.new ≡ self.old ++ (words.now ++ decimal number)) }
+    {
+        self.text.push_str(words)?;
+        self.text.push_number(number)
+    }
+
     /// Appends ` from K`, and ends the line.
     pub fn push_from(&mut self, from: u64) -> Result<(), AllocError>
         ensures { OnOk result (self.new ≡ self.old ++ line (from_text from)) }
     {
-        self.text
-            .push_str(format!(in self.alloc; " from {from}\n")?.as_str())
+        self.push_number_behind(" from ", from)?;
+        self.text.push_str("\n")
     }
 
     /// Appends ` from K at C`, and ends the line.
     pub fn push_from_at(&mut self, from: u64, at: u64) -> Result<(), AllocError>
         ensures { OnOk result (self.new ≡ self.old ++ line (from_text from ++ at_text at)) }
     {
-        self.text
-            .push_str(format!(in self.alloc; " from {from} at {at}\n")?.as_str())
+        self.push_number_behind(" from ", from)?;
+        self.push_at(at)
     }
 
     /// Appends ` at K`, and ends the line.
     pub fn push_at(&mut self, at: u64) -> Result<(), AllocError>
         ensures { OnOk result (self.new ≡ self.old ++ line (at_text at)) }
     {
-        self.text
-            .push_str(format!(in self.alloc; " at {at}\n")?.as_str())
+        self.push_number_behind(" at ", at)?;
+        self.text.push_str("\n")
     }
 }
 

@@ -1,15 +1,13 @@
--- A row is put by its key where it was sought, and writes are put one after another.
+-- A write that gives a row puts that row, and writes are put one after another.
 use Rattle.std.proofs.Common.{◌≡◌, ℕ, ◌+◌, ◌<◌, length, get_or, drop, List, [], ◌∷◌, inl, inr, refl, ap, sym, subst, ◌∙◌}
-use Rattle.std.specs.Prelude.{Ok, Err, slice_set, insert}
 use Rattle.std.specs.declared.option.Option.{Option}
 use Rattle.std.specs.declared.option.Option.TheVariants.{Some, None}
 use Rattle.std.specs.Option.{option_map}
 use Rattle.std.proofs.lemmas.List.{drop_more}
-use Rattle.pg_keyed.specs.Keyed.{Ascends, Sought, get, over, merge}
+use Rattle.pg_keyed.specs.Keyed.{Ascends, get, over, merge}
 use Rattle.pg_keyed.specs.Ranks.{above_none}
 use Rattle.pg_keyed.specs.Reads.{alike, here_or, get_here, get_there}
 use Rattle.pg_keyed.specs.Puts.{put_rises, put_reads}
-use Rattle.pg_keyed.specs.Searches.{sought_replaces, sought_adds}
 use Rattle.pg_value.specs.declared.row.Row.{Row}
 use Rattle.pg_value.specs.declared.value.Value.{Value}
 use Rattle.pg_value.specs.declared.write.Write.{Write}
@@ -31,21 +29,12 @@ stored_of w r = record { table = w.table; key = w.key; row = r }
 -- ONE ROW
 
 -- a write that gives a row puts that row
-one_put : (xs : List Stored) (w : Write) (s : Stored) → row_given w ≡ Some s → put_in xs (w ∷ []) ≡ merge key_of key_cmp xs (s ∷ [])
+pub one_put : (xs : List Stored) (w : Write) (s : Stored) → row_given w ≡ Some s → put_in xs (w ∷ []) ≡ merge key_of key_cmp xs (s ∷ [])
 one_put xs w s g = go w.row refl g
   where
     go : (o : Option Row) → w.row ≡ o → option_map (stored_of w) o ≡ Some s → put_in xs (w ∷ []) ≡ merge key_of key_cmp xs (s ∷ [])
     go None e h = absurd (not_some s h)
     go (Some r) e h = ap (λ o. put_in xs (record w { row = o } ∷ [])) e ∙ ap (λ x. merge key_of key_cmp xs (x ∷ [])) (some_is (stored_of w r) s h)
-
-given_key : (w : Write) (s : Stored) → row_given w ≡ Some s → w.key.values ≡ s.key.values
-given_key w s g = sym ((key_fits (w ∷ [])).0 s g)
-
-pub replaced : (xs : List Stored) (w : Write) (s : Stored) (i : ℕ) → row_given w ≡ Some s → Ascends key_of key_cmp xs → Sought key_of key_cmp w.key.values xs (Ok i) → slice_set xs i s ≡ put_in xs (w ∷ [])
-replaced xs w s i g a h = sym (one_put xs w s g ∙ sought_replaces key_of key_cmp keys xs s i a (subst (λ k. Sought key_of key_cmp k xs (Ok i)) (given_key w s g) h))
-
-pub added : (xs : List Stored) (w : Write) (s : Stored) (i : ℕ) → row_given w ≡ Some s → Ascends key_of key_cmp xs → Sought key_of key_cmp w.key.values xs (Err i) → insert xs i s ≡ put_in xs (w ∷ [])
-added xs w s i g a h = sym (one_put xs w s g ∙ sought_adds key_of key_cmp keys xs s i a (subst (λ k. Sought key_of key_cmp k xs (Err i)) (given_key w s g) h))
 
 -- ONE AFTER ANOTHER
 

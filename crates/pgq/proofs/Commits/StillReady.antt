@@ -18,6 +18,10 @@ use Rattle.pg_value.specs.TablesLaws.{key_of, key_named, put_in, writes_to, held
 use Rattle.pg_rules.specs.Catalog.Shapes.{shapes}
 use Rattle.pgq.specs.declared.engine.Engine.{Engine}
 use Rattle.pg_session.specs.Core.{base_after}
+use Rattle.pg_keyed.specs.Lists.{each_append}
+use Rattle.pg_value.specs.Tables.{FitWrites}
+use Rattle.pg_value.specs.TablesLaws.{FitLog}
+use Rattle.pg_meaning.specs.Sound.Graphs.{AreSoundShapes}
 use Rattle.pgq.specs.Engine.{IsReady, AreSound, most_log_writes, peak_after}
 use Rattle.pgq.specs.Commits.{HasRow, IsRowOf, IsAppended}
 use Rattle.pgq.proofs.Commits.LongerLog.{after_more, held_more}
@@ -87,8 +91,8 @@ module _ (table : TableNo) (c : Commit) (e e' : Engine) (r : IsReady e) (a : IsA
   longer = ap length a.log ∙ length-append e.log (c ∷ [])
 
   pub still_ready : table.0 < length e.tables.items → Each (IsRowOf table) ws → IsInOrder ws → held e.log + length ws ≤ most_log_writes
-      → e'.tables.items ≡ slice_set e.tables.items table.0 (put_in (get_or e.tables.items table.0 []) ws) → IsReady e'
-  still_ready within rows in_order room lists = record {
+      → e'.tables.items ≡ slice_set e.tables.items table.0 (put_in (get_or e.tables.items table.0 []) ws) → FitWrites e.shapes ws → IsReady e'
+  still_ready within rows in_order room lists fits = record {
     each = λ t.
         ap (held_in (record { 0 = t })) tables_then
         ∙ held_put_in (record { 0 = t }) (after e.log (length e.log)) ws (after_in_order e.log (length e.log)) in_order
@@ -97,6 +101,8 @@ module _ (table : TableNo) (c : Commit) (e e' : Engine) (r : IsReady e) (a : IsA
     as_many = ap length lists ∙ length-set e.tables.items table.0 _ ∙ r.as_many ∙ sym (ap (λ d. length d.0) a.catalog);
     shapes_are = a.shapes ∙ r.shapes_are ∙ sym (ap shapes a.catalog);
     sound = subst AreSound (sym a.catalog) r.sound;
+    sound_shapes = subst AreSoundShapes (sym a.shapes) r.sound_shapes;
+    fit = subst (λ s. FitLog s e'.log) (sym a.shapes) (subst (FitLog e.shapes) (sym a.log) (each_append (λ x. FitWrites e.shapes x.writes.list) e.log (c ∷ []) r.fit (fits, tt)));
     held_all = a.held ∙ ap (λ h. h + length ws) r.held_all ∙ sym (ap held a.log ∙ held_more e.log c);
     room = let h : held e'.log ≡ held e.log + length ws = ap held a.log ∙ held_more e.log c in omega (arith, h, room);
     low = let l = base_low e.base (length e.log) r.low in let m = longer in let b = a.base in omega (arith, l, m, b);

@@ -12,7 +12,7 @@ use Rattle.pg_script.specs.declared.script.Script.{Script}
 use Rattle.pg_script.specs.Legal.{no_section, items_of}
 use Rattle.pg_script.specs.Script.{IsScript}
 use Rattle.pg_script.specs.Whole.{ItemsArePlaced, ScriptsAreWhole}
-use Rattle.pgq.specs.Sections.{IsStatementIn, IsRunnable}
+use Rattle.pgq.specs.Sections.{IsStatementIn, IsRunnable, IsRun, IsStepped}
 use Rattle.pgq.specs.Headline.{IsTextOfRun, IsTextOf}
 use Rattle.pgq.proofs.Runs.NoAfter.{IsSql, no_after}
 
@@ -55,9 +55,10 @@ is_runnable bytes script law is few =
       some = (let e = ap length is.sections in omega (arith, e));
       few = few;
       statements = sections_in script.text script.sections (no_after bytes script is few) (all_placed script whole.0);
+      few_items = λ n. (let k = whole.2 n in omega (arith, k));
       order = whole.1;
     }
 
 -- the text of its run is one of the bytes
-pub is_text : (bytes text : List ℕ) (script : Script) → IsScript bytes script → length script.sections ≤ 2 → IsTextOfRun script text → IsTextOf bytes text
-is_text bytes text script is few t = (t.0, record { script = script; is_script = is; one_session = few; run = t.1 }, t.2)
+pub is_text : (bytes text : List ℕ) (script : Script) → IsScript bytes script → length script.sections ≤ 2 → IsTextOfRun IsRun script text → IsTextOf IsStepped bytes text
+is_text bytes text script is few t = (t.0, record { script = script; is_script = is; run = record { one_session = few; run = t.1 } }, t.2)

@@ -38,11 +38,11 @@ each_got P (y ∷ xs) zero x h got = subst P (some_is y x got) h.0
 each_got P (y ∷ xs) (suc k) x h got = each_got P xs k x h.1 got
 
 -- one item more
-pub item_more : (text : List ℕ) (n : ℕ) (items : List Item) (e e' e'' : Engine) (outs outs' : List Outcome) (d : Item) (k : ℕ) (o : Outcome) → HasAnswered text n items e outs e' → length outs ≡ k → k < length items → IsReady e'
-    → Answers text n e' (get_or items k d) o e'' → outs' ≡ outs ++ o ∷ [] → HasAnswered text n items e outs' e''
-item_more text n items e e' e'' outs outs' d k o h count lt ready a is =
-    subst (λ os. HasAnswered text n items e os e'') (sym is)
-    (one_more text n items e e' e'' outs (get_or items k d) o h (subst (λ i. slice_get items i ≡ Some (get_or items k d)) (sym count) (slice_get-get_or items k d lt)) ready.peak a)
+pub item_more : (script : Script) (n : ℕ) (items : List Item) (e e' e'' : Engine) (outs outs' : List Outcome) (d : Item) (k : ℕ) (o : Outcome) → HasAnswered script n items e outs e' → length outs ≡ k → k < length items → IsReady e'
+    → Answers script n e' (get_or items k d) o e'' → outs' ≡ outs ++ o ∷ [] → HasAnswered script n items e outs' e''
+item_more script n items e e' e'' outs outs' d k o h count lt ready a is =
+    subst (λ os. HasAnswered script n items e os e'') (sym is)
+    (one_more script n items e e' e'' outs (get_or items k d) o h (subst (λ i. slice_get items i ≡ Some (get_or items k d)) (sym count) (slice_get-get_or items k d lt)) ready.peak a)
 
 pub counted_more : {A : Type 0} (outs outs' : List A) (k : ℕ) (o : A) → length outs ≡ k → outs' ≡ outs ++ o ∷ [] → length outs' ≡ k + 1
 counted_more outs outs' k o count is = omega (arith, ap length is, length-append outs (o ∷ []), count)
@@ -55,11 +55,11 @@ statements_of script n section r got = each_got (λ (s : Section). Each (IsState
 items_are : (script : Script) (n : ℕ) (section : Section) → slice_get script.sections n ≡ Some section → items_of script n ≡ section.items
 items_are script n section got = ap (λ (s : Section). s.items) (get_or_from_slice_get script.sections n section no_section got)
 
-pub section_is : (script : Script) (n : ℕ) (section : Section) (e e' : Engine) (name : List ℕ) (outs : List Outcome) → slice_get script.sections n ≡ Some section → HasAnswered script.text n section.items e outs e'
+pub section_is : (script : Script) (n : ℕ) (section : Section) (e e' : Engine) (name : List ℕ) (outs : List Outcome) → slice_get script.sections n ≡ Some section → HasAnswered script n section.items e outs e'
     → length outs ≡ length section.items → name ≡ section.name → HasRunSection script n section e (record { name = name; outcomes = outs; rolled_back = false }) e'
 section_is script n section e e' name outs got h all named = record {
   whole = record {
-    answered = subst (λ is. HasAnswered script.text n is e outs e') (sym (items_are script n section got)) h;
+    answered = subst (λ is. HasAnswered script n is e outs e') (sym (items_are script n section got)) h;
     all = all ∙ sym (ap length (items_are script n section got));
   };
   out_of = (named, refl);

@@ -9,9 +9,9 @@ use Rattle.std.proofs.lemmas.Option.{none-some, slice_get-get_or, slice_get_with
 use Rattle.pg_value.specs.declared.shape.TableNo.{TableNo}
 use Rattle.pg_value.specs.declared.shape.TableShape.{TableShape}
 use Rattle.pg_value.specs.declared.write.Write.{Write}
-use Rattle.pg_value.specs.Tables.{Stored}
+use Rattle.pg_value.specs.Tables.{Stored, FitWrites}
 use Rattle.pg_value.specs.TablesLaws.{after_in_order}
-use Rattle.pg_value.specs.Writes.{Limited}
+use Rattle.pg_value.specs.Writes.{Limited, IsInOrder}
 use Rattle.pg_value.specs.Log.{after, held}
 use Rattle.pg_rules.specs.declared.fault.RowFault.{RowFault}
 use Rattle.pg_rules.specs.declared.entry.TableEntry.{TableEntry}
@@ -19,6 +19,7 @@ use Rattle.pg_ast.specs.declared.statement.Insert.{Insert}
 use Rattle.pg_rules.specs.declared.fault.ResolveFault.{ResolveFault}
 use Rattle.pg_rules.specs.declared.fault.ResolveFault.TheVariants as faults
 use Rattle.pg_rules.specs.Catalog.Shapes.{shapes, table_shape}
+use Rattle.pg_rules.specs.Catalog.Sound.{IsSound}
 use Rattle.pg_rules.specs.Definitions.Entries.{number_of}
 use Rattle.pg_rules.specs.Changes.InsertJudgement.{insert_fault, resolved_insert}
 use Rattle.pg_script.specs.declared.outcome.FaultKind.{FaultKind}
@@ -31,11 +32,13 @@ use Rattle.pg_write.specs.PlainInsert.{rows_of, IsFound, Holds, IsHeld, Writes, 
 use Rattle.pgq.specs.declared.engine.Engine.{Engine}
 use Rattle.pg_language.specs.Language.{most_transaction_writes, resolve_refusal, IsInserted, affects, refusal_of}
 use Rattle.pgq.specs.Refusals.{IsTold}
+use Rattle.pg_write.specs.WritesFit.{WritesFit}
 use Rattle.pgq.specs.Insertions.{IsTableOf, HasRows, HasNoRows}
 use Rattle.pgq.specs.Commits.{HasEnded, nothing, full, committed}
 use Rattle.pgq.specs.Engine.{IsReady, Answers, AnswersTo}
 use Rattle.pgq.proofs.Statements.Outcomes.{change_fault_is, stopped_is, none_is, full_is, changed_is}
 use Rattle.pgq.proofs.Statements.InsertEffects.{table_stands, effect_is}
+use Rattle.pgq.proofs.Statements.InsertRows.{rows_in_order}
 
 -- an accepted INSERT's table stands in the catalog and among the lists of rows
 pub table_is : (e : Engine) (i : Insert) → IsReady e → insert_fault e.catalog.0 i ≡ None → IsTableOf e i (number_of e.catalog.0 i.table.text)
@@ -74,24 +77,44 @@ module _ (e : Engine) (i : Insert) (table : TableNo) (plain : is_plain i ≡ tru
       (subst (λ t. IsInserted e.catalog (after e.log (length e.log)) [] t h.shape (rows_of h.shape i) (Stopped (refusal_of e.catalog table row fault))) is.named
       (row, fault, h.refuses (after e.log (length e.log)) holds, refl))
 
-  pub ended : (n : ℕ) (ws : List Write) (o : Outcome) (e' : Engine) → HasRows e i table ws → HasEnded n e ws o e' → AnswersTo (Changes i) n e o e'
-  ended n ws o e' h (nothing none is same) text item r =
-      subst (λ x. Answers text n e item o x) (sym same) (subst (λ x. Answers text n e item x e) (sym is)
-      (none_is text n e item i (resolved_insert e.catalog.0 i) ws r (right, refl) (done ws 0 h (sym (ap length none)))))
-  ended n ws o e' h (full some over is same) text item r =
-      subst (λ x. Answers text n e item o x) (sym same) (subst (λ x. Answers text n e item x e) (sym is)
-      (full_is text n e item i (resolved_insert e.catalog.0 i) ws (length ws) r (right, refl) (done ws (length ws) h refl) (length_some ws some) over))
-  ended n ws o e' h (committed some room c is) text item r =
-      subst (λ x. Answers text n e item x e') (sym is)
-      (changed_is text n e item i (resolved_insert e.catalog.0 i) ws (length ws) c.commit e' r (right, refl) (done ws (length ws) h refl) (length_some ws some) some room c.is c.catalog c.log c.base c.peak)
+  -- its writes are in order and fit
+  fits : WritesFit → IsSound e.catalog → (ws : List Write) → HasRows e i table ws → FitWrites (shapes e.catalog) ws
+  fits law sound ws h = law e.catalog i ws sound (record { plain = plain; right = right }) (record {
+    limit = most_transaction_writes;
+    shape = h.shape;
+    held = get_or e.tables.items table.0 [];
+    tables = after e.log (length e.log);
+    shape_at = shape_at h.shape h.shape_at;
+    holds = subst (λ t. Holds t (get_or e.tables.items table.0 []) (after e.log (length e.log))) is.named holds;
+    written = subst (λ t. Writes most_transaction_writes t h.shape (get_or e.tables.items table.0 []) (rows_of h.shape i) ws) is.named h.written;
+  })
+
+  -- and so of the shapes that are held
+  pub fits_here : WritesFit → IsSound e.catalog → (ws : List Write) → HasRows e i table ws → FitWrites e.shapes ws
+  fits_here law sound ws h = subst (λ s. FitWrites s ws) (sym ready.shapes_are) (fits law sound ws h)
+
+  ordered : (ws : List Write) → HasRows e i table ws → IsInOrder ws
+  ordered ws h = rows_in_order table h.shape (rows_of h.shape i) ws h.written.written
+
+  pub ended : (n : ℕ) (ws : List Write) (o : Outcome) (e' : Engine) → WritesFit → IsSound e.catalog → HasRows e i table ws → HasEnded n e ws o e' → AnswersTo (Changes i) n e o e'
+  ended n ws o e' law sound h (nothing none is same) script item r =
+      subst (λ x. Answers script n e item o x) (sym same) (subst (λ x. Answers script n e item x e) (sym is)
+      (none_is script n e item i (resolved_insert e.catalog.0 i) ws r (right, refl) (done ws 0 h (sym (ap length none)))))
+  ended n ws o e' law sound h (full some over is same) script item r =
+      subst (λ x. Answers script n e item o x) (sym same) (subst (λ x. Answers script n e item x e) (sym is)
+      (full_is script n e item i (resolved_insert e.catalog.0 i) ws (length ws) r (right, refl) (done ws (length ws) h refl) (length_some ws some) some (ordered ws h) (fits law sound ws h) over))
+  ended n ws o e' law sound h (committed some room c is) script item r =
+      subst (λ x. Answers script n e item x e') (sym is)
+      (changed_is script n e item i (resolved_insert e.catalog.0 i) ws (length ws) r (right, refl) (done ws (length ws) h refl) (length_some ws some) some (ordered ws h) (fits law sound ws h)
+      c.commit e' c.limit room c.is c.catalog c.log c.base c.peak)
 
   pub refused_row : (n : ℕ) (row : ℕ) (fault : RowFault) (o : Outcome) → HasNoRows e i table (Row row fault) → o ≡ refused (refusal_of e.catalog table row fault) (length e.log) → AnswersTo (Changes i) n e o e
-  refused_row n row fault o h is text item r =
-      subst (λ x. Answers text n e item x e) (sym is) (stopped_is text n e item i (resolved_insert e.catalog.0 i) (refusal_of e.catalog table row fault) r (right, refl) (stopped row fault h))
+  refused_row n row fault o h is script item r =
+      subst (λ x. Answers script n e item x e) (sym is) (stopped_is script n e item i (resolved_insert e.catalog.0 i) (refusal_of e.catalog table row fault) r (right, refl) (stopped row fault h))
 
-  pub ended_ok : (n : ℕ) (ws : List Write) (e' : Engine) (r : Result Outcome AllocError) → HasRows e i table ws → IfOk r (λ o. HasEnded n e ws o e') → IfOk r (λ o. AnswersTo (Changes i) n e o e')
-  ended_ok n ws e' (Ok o) h x = ended n ws o e' h x
-  ended_ok n ws e' (Err f) h x = tt
+  pub ended_ok : (n : ℕ) (ws : List Write) (e' : Engine) (r : Result Outcome AllocError) → WritesFit → IsSound e.catalog → HasRows e i table ws → IfOk r (λ o. HasEnded n e ws o e') → IfOk r (λ o. AnswersTo (Changes i) n e o e')
+  ended_ok n ws e' (Ok o) law sound h x = ended n ws o e' law sound h x
+  ended_ok n ws e' (Err f) law sound h x = tt
 
   pub refused_ok : (n : ℕ) (row : ℕ) (fault : RowFault) (r : Result Outcome AllocError) → HasNoRows e i table (Row row fault) → IfOk r (λ o. o ≡ refused (refusal_of e.catalog table row fault) (length e.log))
       → IfOk r (λ o. AnswersTo (Changes i) n e o e)
@@ -112,9 +135,9 @@ was_found o faults.Memory kind at h r = absurd (none-some (kind, at) r)
 pub faulty_ok : (e : Engine) (i : Insert) (n : ℕ) (fault : ResolveFault) (refusal : Option (FaultKind × ℕ)) (r : Result Outcome AllocError) → IsFound (insert_fault e.catalog.0 i) fault
     → refusal ≡ resolve_refusal fault → IfOk r (IsTold refusal) → IfOk r (λ o. AnswersTo (Changes i) n e o e)
 faulty_ok e i n fault refusal (Err x) f told is = tt
-faulty_ok e i n fault refusal (Ok o) f told is = λ text item reads.
+faulty_ok e i n fault refusal (Ok o) f told is = λ script item reads.
     let here : resolve_refusal fault ≡ Some (is.0, is.1) = sym told ∙ is.2 in
-    subst (λ x. Answers text n e item x e) (sym is.3) (change_fault_is text n e item i is.0 is.1 reads (fault, was_found (insert_fault e.catalog.0 i) fault is.0 is.1 f here, here))
+    subst (λ x. Answers script n e item x e) (sym is.3) (change_fault_is script n e item i is.0 is.1 reads (fault, was_found (insert_fault e.catalog.0 i) fault is.0 is.1 f here, here))
 
 -- what stands at a place within a list, whatever is told of the places beyond
 same_within : {A : Type 0} (xs : List A) (k : ℕ) (a b : A) → k < length xs → get_or xs k a ≡ get_or xs k b

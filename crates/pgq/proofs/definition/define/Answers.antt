@@ -5,7 +5,7 @@ use Rattle.pgq.proofs.Statements.Definitions.{ready_ok, answers_ok, faulty_ok}
 use Rattle.pgq.proofs.definition.define.Goals as goal
 
 pub returns-then-section-ne0-clause-answers : goal.returns-then-section-ne0-clause-answers
-returns-then-section-ne0-clause-answers c text item r = in_session_is text c.args.section c.args.engine.now item c.args.definition.now c.args.at r c.if-section-ne0.true
+returns-then-section-ne0-clause-answers c script item r = in_session_is script c.args.section c.args.engine.now item c.args.definition.now c.args.at r c.if-section-ne0.true
 
 pub returns-in-Ok-clause-ready : goal.returns-in-Ok-clause-ready
 returns-in-Ok-clause-ready c = ready_ok c.args.definition.now c.args.engine.now (record c.args.engine.now { catalog = c.define.new.self }) c.finish_definition.new.engine c.finish_definition.result

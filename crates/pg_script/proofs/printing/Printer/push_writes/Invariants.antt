@@ -3,5 +3,5 @@ use Rattle.std.specs.List.{flat_map}
 use Rattle.pg_script.specs.Text.{write_line}
 use Rattle.pg_script.proofs.printing.Printer.push_writes.Given as goal
 
-abbrev pub invariant-loop-write : goal.invariant-loop-write
-invariant-loop-write l = l.self ≡ l.fn.self ++ flat_map (write_line l.tables) (take l.write-index l.writes)
+abbrev pub invariant-loop-at : goal.invariant-loop-at
+invariant-loop-at l = l.self ≡ l.fn.self ++ flat_map (write_line l.tables) (take l.at l.writes.list)

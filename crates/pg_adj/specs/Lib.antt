@@ -1,0 +1,5 @@
+pub mod Entries
+pub mod EndOrder
+pub mod Groups
+pub mod Gather
+pub mod Adjacency

@@ -1,0 +1,8 @@
+use Rattle.std.proofs.Common.{◌≡◌, drop}
+use Rattle.std.specs.List.{flat_map}
+use Rattle.pg_rules.specs.Places.{least, sooner}
+use Rattle.pg_rules.specs.Queries.{fourth_edge}
+use Rattle.pg_check.proofs.limits.crowded_parts.Given as goal
+
+abbrev pub invariant-loop-part : goal.invariant-loop-part
+invariant-loop-part l = sooner l.found (least (flat_map fourth_edge (drop l.part-index l.parts))) ≡ least (flat_map fourth_edge l.parts)

@@ -1,0 +1,8 @@
+use Rattle.std.proofs.Common.{◌≡◌, drop}
+use Rattle.std.specs.List.{flat_map}
+use Rattle.pg_rules.specs.Places.{least, sooner}
+use Rattle.pg_check.specs.Passes.{endless_path}
+use Rattle.pg_check.proofs.quantifiers.endless_paths.Given as goal
+
+abbrev pub invariant-loop-path : goal.invariant-loop-path
+invariant-loop-path l = sooner l.found (least (flat_map endless_path (drop l.path-index l.paths))) ≡ least (flat_map endless_path l.paths)

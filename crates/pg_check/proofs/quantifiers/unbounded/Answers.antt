@@ -1,0 +1,10 @@
+use Rattle.std.proofs.Common.{◌∙◌, ap, List}
+use Rattle.pg_ast.specs.declared.pattern.PathPattern.{PathPattern}
+use Rattle.std.specs.List.{flat_map}
+use Rattle.pg_rules.specs.Places.{least}
+use Rattle.pg_check.specs.Passes.{endless_path}
+use Rattle.pg_check.proofs.QuantLaws.{unbounded_same}
+use Rattle.pg_check.proofs.quantifiers.unbounded.Goals as goal
+
+pub returns : goal.returns
+returns c = c.endless_paths.ensures ∙ ap (λ (ps : List PathPattern). least (flat_map endless_path ps)) c.as_slice.ensures ∙ ap least (unbounded_same c.args.query.now)

@@ -1,0 +1,9 @@
+mod Halves
+mod Places
+mod Splits
+mod Raises
+mod Renewals
+mod Keeps
+mod Seeks
+mod Changes
+mod Walks

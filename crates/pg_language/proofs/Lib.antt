@@ -1,0 +1,6 @@
+-- That the language of scripts says one thing, and what its definitions and changes keep.
+pub mod Firsts
+pub mod Exact
+pub mod Keeps
+pub mod FitRows
+pub mod Fitting

@@ -1,0 +1,3 @@
+-- What a search gives.
+pub mod Chains
+pub mod Puts

@@ -1,0 +1,2 @@
+-- Why the expressions of the tests are sound.
+pub mod Literals

@@ -1,0 +1,4 @@
+use Rattle.pg_tests.proofs.adjacency.edges_at.Given as goal
+
+abbrev pub ghosts-printed : goal.ghosts-printed
+ghosts-printed a = record { name = a.blank.name; parts = a.blank.parts }

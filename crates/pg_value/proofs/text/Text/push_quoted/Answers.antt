@@ -1,8 +1,0 @@
-use Rattle.std.proofs.Common.{subst, sym, ap, length, ◌∙◌}
-use Rattle.std.specs.String.{string_bytes}
-use Rattle.std.specs.String.Boundary.{IsSplitPoint}
-use Rattle.pg_value.proofs.Texts.{may_cut}
-use Rattle.pg_value.proofs.text.Text.push_quoted.Goals as goal
-
-pub truncate-requires : goal.truncate-requires
-truncate-requires c l = subst (IsSplitPoint (string_bytes c.push_between-pushed.new.out)) (sym (c.len-before.ensures ∙ ap length (sym c.self.view_is))) (may_cut _ _ c.push_between-pushed.ensures.more)

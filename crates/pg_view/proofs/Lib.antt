@@ -1,0 +1,4 @@
+pub mod Growing
+pub mod ViewLaws
+pub mod HopLaws
+pub mod ListsLaws

@@ -1,0 +1,5 @@
+pub mod Neighbours
+pub mod RowEnds
+pub mod Lists
+pub mod Sides
+pub mod Standing
