@@ -1,4 +1,4 @@
-"""A small model of the rules: it takes tables, graphs, inserts and one-hop queries as data, and makes the script and its transcript.
+"""A small model of the rules: it takes tables, graphs, changes and one-hop queries as data, and makes the script and its transcript.
 
 It knows nothing of the program. Values are None, int, bool and str; a column's kind is `int`, `bool` or the number of bytes of a VARCHAR.
 In a text, « stands before the token at which a fault is expected; it is taken out of the script.
@@ -84,16 +84,30 @@ class Table:
     def key_of(self, row):
         return tuple(row[p] for p in self.places)
 
+    def taken(self, where):
+        """The rows that a condition takes, in order of their keys, each with its key and as a dictionary by its columns."""
+        for key, row in sorted(self.rows.items(), key=lambda r: ranks(r[0])):
+            old = dict(zip([c.name for c in self.columns], row))
+            if where is None or where(old) is True:
+                yield key, old
+
     def text(self):
         items = ", ".join(c.text() for c in self.columns)
         return f"CREATE TABLE {spelled(self.name)} ({items}, PRIMARY KEY {names(self.key)})"
 
-    def row_fault(self, row, earlier):
-        """The fault of a row of an INSERT: its kind and its column, if it has one."""
+    def values_fault(self, row):
+        """The first column of a row with a fault: its kind and its name, if there is one."""
         for place, value in enumerate(row):
             kind = self.columns[place].fault(value, place in self.places)
             if kind:
                 return kind, self.columns[place].name
+        return None
+
+    def row_fault(self, row, earlier):
+        """The fault of a row of an INSERT: its kind and its column, if it has one."""
+        fault = self.values_fault(row)
+        if fault:
+            return fault
         key = self.key_of(row)
         if key in self.rows or key in earlier:
             return "Duplicate", None
@@ -202,21 +216,55 @@ class Script:
         return self.define(Graph(name, vertices, list(edges)))
 
     def insert(self, table, *rows, text=None):
+        """An INSERT of these rows, whose columns are all given, in the order of the table."""
         tuples = ", ".join(f"({listed(row)})" for row in rows)
         self.write((text or f"INSERT INTO {spelled(table.name)} VALUES {tuples}") + ";\n")
-        before, written = len(self.log), {}
+        written = {}
         for number, row in enumerate(rows, 1):
             fault = table.row_fault(row, written)
             if fault:
-                column = f" column {shown(fault[1])}" if fault[1] is not None else ""
-                self.outcome(f"refused {fault[0]} row {number}{column} at {before}")
-                return self
+                return self.row_refused(number, fault)
             written[table.key_of(row)] = row
+        return self.commit(table, written)
+
+    def update(self, table, sets, where=None, text=""):
+        """An UPDATE, by what follows SET in its text: `sets` gives for a column a function of the old row, which is a dictionary, and `where` says
+        of such a row whether it is taken."""
+        self.write(f"UPDATE {spelled(table.name)} SET {text};\n")
+        written = {}
+        for number, (key, old) in enumerate(table.taken(where), 1):
+            row = tuple(sets[name](old) if name in sets else value for name, value in old.items())
+            fault = table.values_fault(row)
+            if fault:
+                return self.row_refused(number, fault)
+            written[key] = row
+        return self.commit(table, written)
+
+    def delete(self, table, where=None, text=""):
+        """A DELETE, by what follows its table in the text."""
+        self.write(f"DELETE FROM {spelled(table.name)}{text and ' ' + text};\n")
+        return self.commit(table, {key: None for key, _ in table.taken(where)})
+
+    def row_refused(self, number, fault):
+        column = f" column {shown(fault[1])}" if fault[1] is not None else ""
+        self.outcome(f"refused {fault[0]} row {number}{column} at {len(self.log)}")
+        return self
+
+    def commit(self, table, written):
+        """The rows of these keys are put, or go where they are None, as the next commit; without any nothing is committed."""
+        before = len(self.log)
+        if not written:
+            self.outcome(f"changed 0 at {before}")
+            return self
         if before - self.base == MOST_OVER_A_BASE:
             self.base, self.folded = before, True
-        table.rows.update(written)
+        for key, row in written.items():
+            if row is None:
+                del table.rows[key]
+            else:
+                table.rows[key] = row
         self.log.append((self.section, table, sorted(written.items(), key=lambda w: ranks(w[0]))))
-        self.outcome(f"changed {len(rows)} from {before} at {before + 1}")
+        self.outcome(f"changed {len(written)} from {before} at {before + 1}")
         return self
 
     def query(self, graph, columns, variables=("X", "E", "Y"), text=None):
@@ -233,8 +281,12 @@ class Script:
                 place = element.properties().get(p)
                 row.append(None if place is None else values[place])
             rows.append(row)
+        return self.answered([n or p for _, p, n in columns], rows)
+
+    def answered(self, names, rows):
+        """The outcome of a query with these rows, in any order."""
         self.outcome(f"rows {len(rows)} at {len(self.log)} base {self.base}")
-        self.out.append(": " + ", ".join(shown(n or p) for _, p, n in columns))
+        self.out.append(": " + ", ".join(map(shown, names)))
         self.out += ["= " + listed(row) for row in sorted(rows, key=ranks)]
         return self
 
@@ -245,6 +297,7 @@ class Script:
         out = self.out + (["end"] if self.section is not None else []) + [f"@log {len(self.log)}"]
         for number, (section, table, writes) in enumerate(self.log, 1):
             out.append(f"{number} {section} from {number - 1}")
-            out += [f"+ {shown(table.name)} ({listed(key)}) = ({listed(row)})" for key, row in writes]
+            for key, row in writes:
+                out.append(f"- {shown(table.name)} ({listed(key)})" if row is None else f"+ {shown(table.name)} ({listed(key)}) = ({listed(row)})")
         out += ["@peak kept 2 pins 1" if self.folded else "@peak kept 1 pins 0", "@end"]
         return ("\n".join(out) + "\n").encode()

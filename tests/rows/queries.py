@@ -1,8 +1,9 @@
-"""Queries: where they are refused, and the answers of those of one edge."""
+"""Queries: where they are refused, the answers of those of one edge, and of one of each form of the grammar."""
+from cases import cases
 from model import Element, Script, edge
 from refusals import BOTH, refused
 from running import said
-from tables import PQ, base, hop, ints, social
+from tables import PQ, base, hop, ints, probe, social
 
 
 def label_scripts():
@@ -156,7 +157,21 @@ def session_scripts():
     yield "inserts and queries in turns", script
 
 
+def answer_rows():
+    """Queries of a file, whose columns and rows stand beside them."""
+    for kind, line in cases("answers.txt"):
+        query, names, values = (part.strip() for part in line.split("=>"))
+        script, t, p, w, e, g = base()
+        script.begin("a").write(query + ";\n")
+        rows = [row.strip() for row in values.split(";")] if values else []
+        script.outcome(f"{kind} {len(rows)} at {len(script.log)} base {script.base}")
+        script.out += [f": {names}"] + [f"= {row}" for row in rows]
+        probe(script, t, e, g)
+        yield said(f"{kind}: {query[:150]}", script)
+
+
 def rows():
+    yield from answer_rows()
     for file in ("queries.txt", "query_faults.txt"):
         yield from refused(file, lambda kind: BOTH)
     for group in (label_scripts, kind_scripts, graph_scripts, home_scripts, staff_scripts, session_scripts):

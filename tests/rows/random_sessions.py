@@ -60,7 +60,8 @@ def ways(word, first, fault):
         return [f"refused Syntax at byte {fault}"]
     if word == "CREATE":
         return [f"refused DefinitionInSession at byte {first}"]
-    return [f"refused NotYet at byte {first}"] + [f"refused {kind} at byte \\d+" for kind in {"INSERT": ["NoTable"], "SELECT": ["NoGraph"]}.get(word, [])]
+    kind = {"INSERT": "NoTable", "UPDATE": "NoTable", "DELETE": "NoTable", "SELECT": "NoGraph"}.get(word)
+    return [f"refused {kind} at byte \\d+" if kind else f"refused NotYet at byte {first}"]
 
 
 class Statements(Row):

@@ -1,26 +1,22 @@
 -- The language of scripts is exact: each of its judgements says one thing.
-use Rattle.std.proofs.Common.{◌≡◌, ℕ, true, List, map, inl, inr, sym, ap, ◌∙◌, subst}
+use Rattle.std.proofs.Common.{◌≡◌, ℕ, Bool, true, false, List, inl, inr, sym, ap, ◌∙◌, subst}
 use Rattle.std.specs.declared.option.Option.{Option}
 use Rattle.std.specs.declared.option.Option.TheVariants.{Some, None}
 use Rattle.std.proofs.lemmas.Option.{same_Some}
 use Rattle.pg_lex.specs.declared.token.Token.{Token}
 use Rattle.pg_lex.specs.Tokens.{Tokens}
-use Rattle.pg_value.specs.declared.row.Row.{Row}
-use Rattle.pg_value.specs.declared.shape.TableNo.{TableNo}
-use Rattle.pg_value.specs.declared.shape.TableShape.{TableShape}
 use Rattle.pg_value.specs.declared.write.Write.{Write}
 use Rattle.pg_value.specs.Tables.{Tables}
 use Rattle.pg_ast.specs.declared.define.Define.{Define}
-use Rattle.pg_ast.specs.declared.statement.Insert.{Insert}
 use Rattle.pg_meaning.specs.declared.checked.CheckedChange.{CheckedChange}
-use Rattle.pg_meaning.specs.declared.checked.CheckedChange.TheVariants as changes
 use Rattle.pg_meaning.specs.declared.checked.CheckedQuery.{CheckedQuery}
 use Rattle.pg_meaning.specs.OneAnswer.{has_one_answer, AnswersAreOne}
 use Rattle.pg_rules.specs.Catalog.{Defined}
 use Rattle.pg_rules.specs.Catalog.Shapes.{shapes}
 use Rattle.pg_rules.specs.Definitions.{define_fault, with_definition}
-use Rattle.pg_rules.specs.Changes.InsertJudgement.{insert_fault, resolved_insert}
-use Rattle.pg_rules.specs.Changes.InsertEffect.{row_of}
+use Rattle.pg_rules.specs.Changes.{Change, change_fault, resolved_change}
+use Rattle.pg_rules.specs.Changes.ChangeEffect.{Context, context}
+use Rattle.pg_meaning.specs.Sound.Changes.{table_of}
 use Rattle.pg_script.specs.declared.script.Item.{Item}
 use Rattle.pg_script.specs.declared.script.Item.TheVariants.{Sql, After}
 use Rattle.pg_script.specs.declared.script.Script.{Script}
@@ -31,8 +27,8 @@ use Rattle.pg_sql.specs.declared.parsed.Parsed.{Parsed}
 use Rattle.pg_sql.specs.declared.parsed.Parsed.TheVariants.{Statement, Fault}
 use Rattle.pg_sql.specs.Parsed.{IsParsed}
 use Rattle.pg_sql.specs.Answers.{OneTree}
-use Rattle.pg_language.specs.Language.{reading_of, reads, name_of, define_refusal, defines, resolve_refusal, resolves, most_transaction_writes, refusal_of, IsInserted, affects, checks, answers, language, Asked, query_refusal, IsOneHop}
-use Rattle.pg_language.proofs.Firsts.{none_some, no_fault_in, one_fault, not_right, one_faulty_row}
+use Rattle.pg_language.specs.Language.{reading_of, reads, name_of, define_refusal, defines, resolve_refusal, resolves, most_transaction_writes, refusal_of, IsEffect, affects, checks, answers, language, Asked, query_refusal, runs}
+use Rattle.pg_language.proofs.Firsts.{none_some, no_fault_in, one_fault, not_done, one_faulty_row}
 
 -- RULINGS
 
@@ -68,15 +64,18 @@ one_definition d definition r s a b =
     rules : (t : Ruling (List ℕ × Defined)) → defines d definition t → Rules (define_fault d definition) define_refusal (IsDefined d definition) t
     rules t h = by_rules (define_fault d definition) define_refusal (IsDefined d definition) (defines d definition) (λ kind at k. k) (λ y k. k) t h
 
-abbrev IsResolved : Defined → Insert → CheckedChange → Type 0
-IsResolved d i y = y ≡ resolved_insert d.0 i
+abbrev IsResolved : Defined → Change → CheckedChange → Type 0
+IsResolved d c y = y ≡ resolved_change d.0 c
 
-one_change : (d : Defined) (i : Insert) (r s : Ruling CheckedChange) → resolves d i r → resolves d i s → r ≡ s
-one_change d i r s a b =
-    one_ruling (insert_fault d.0 i) resolve_refusal (IsResolved d i) (λ x y p q. p ∙ sym q) r s (rules r a) (rules s b)
+one_change : (d : Defined) (c : Change) (r s : Ruling CheckedChange) → resolves d c r → resolves d c s → r ≡ s
+one_change d c r s a b =
+    one_ruling (change_fault d.0 c) resolve_refusal (IsResolved d c) (λ x y p q. p ∙ sym q) r s (rules r a) (rules s b)
   where
-    rules : (t : Ruling CheckedChange) → resolves d i t → Rules (insert_fault d.0 i) resolve_refusal (IsResolved d i) t
-    rules t h = by_rules (insert_fault d.0 i) resolve_refusal (IsResolved d i) (resolves d i) (λ kind at k. k) (λ y k. k) t h
+    rules : (t : Ruling CheckedChange) → resolves d c t → Rules (change_fault d.0 c) resolve_refusal (IsResolved d c) t
+    rules t h = by_rules (change_fault d.0 c) resolve_refusal (IsResolved d c) (resolves d c) (λ kind at k. k) (λ y k. k) t h
+
+yes_no : (b : Bool) → b ≡ true → b ≡ false → ⊥
+yes_no b h k = cc
 
 -- a query that is refused is so for one fault; one that is not is run or NotYet
 one_query : (d : Defined) (q : Asked) (r s : Ruling CheckedQuery) → checks d q r → checks d q s → r ≡ s
@@ -91,32 +90,29 @@ one_query d (q, begin) (Faulty kind at) (Faulty kind' at') (inr (_, _, is, place
     let h : at ≡ at' = place ∙ sym place' in
     λ i. Faulty (k i) (h i)
 one_query d (q, begin) (Faulty kind at) (Fine y) (inl (f, p, u)) (none, _, _) = absurd (none_some f (sym none ∙ p))
-one_query d (q, begin) (Faulty kind at) (Fine y) (inr (_, other, _, _)) (_, is, hop) = absurd (other (subst (IsOneHop d q) is hop))
+one_query d (q, begin) (Faulty kind at) (Fine y) (inr (_, other, _, _)) (_, is, run) = absurd (yes_no (runs y) run (ap runs is ∙ other))
 one_query d (q, begin) (Fine x) (Faulty kind at) (none, _, _) (inl (f, p, u)) = absurd (none_some f (sym none ∙ p))
-one_query d (q, begin) (Fine x) (Faulty kind at) (_, is, hop) (inr (_, other, _, _)) = absurd (other (subst (IsOneHop d q) is hop))
+one_query d (q, begin) (Fine x) (Faulty kind at) (_, is, run) (inr (_, other, _, _)) = absurd (yes_no (runs x) run (ap runs is ∙ other))
 one_query d (q, begin) (Fine x) (Fine y) (_, is, _) (_, is', _) = ap Fine (is ∙ sym is')
 
 -- EFFECTS
 
-module _ (d : Defined) (tables : Tables) (ws : List Write) (table : TableNo) where
-  one_inserted : (shape : TableShape) (rows : List Row) (e f : Effect) → IsInserted d tables ws table shape rows e → IsInserted d tables ws table shape rows f → e ≡ f
-  one_inserted shape rows (Stopped r) (Stopped r') (n, fault, first, is) (n', fault', first', is') =
-      let same = one_faulty_row most_transaction_writes table shape tables ws rows n n' fault fault' first first' in
-      ap Stopped (is ∙ (λ i. refusal_of d table (same.0 i) (same.1 i)) ∙ sym is')
-  one_inserted shape rows (Stopped r) (Done ws' k) (n, fault, first, is) (right, _, _) = absurd (not_right most_transaction_writes table shape tables ws rows n fault first right)
-  one_inserted shape rows (Done ws' k) (Stopped r) (right, _, _) (n, fault, first, is) = absurd (not_right most_transaction_writes table shape tables ws rows n fault first right)
-  one_inserted shape rows (Done ws' k) (Done ws'' k') (right, p, q) (right', u, v) =
-      let writes : ws' ≡ ws'' = p ∙ sym u in
-      let count : k ≡ k' = q ∙ sym v in
-      λ i. Done (writes i) (count i)
+one_done : (d : Defined) (c : Context) (x : CheckedChange) (e f : Effect) → IsEffect d c x e → IsEffect d c x f → e ≡ f
+one_done d c x (Stopped r) (Stopped r') (n, fault, first, is) (n', fault', first', is') =
+    let same = one_faulty_row c x n n' fault fault' first first' in
+    ap Stopped (is ∙ (λ i. refusal_of d (table_of x) (same.0 i) (same.1 i)) ∙ sym is')
+one_done d c x (Stopped r) (Done ws k) (n, fault, first, is) done = absurd (not_done c x n fault ws k first done)
+one_done d c x (Done ws k) (Stopped r) done (n, fault, first, is) = absurd (not_done c x n fault ws k first done)
+one_done d c x (Done ws k) (Done ws' k') a b =
+    let writes : ws ≡ ws' = a.written ∙ sym b.written in
+    let count : k ≡ k' = a.counted ∙ sym b.counted in
+    λ i. Done (writes i) (count i)
 
 one_effect : (d : Defined) (tables : Tables) (ws : List Write) (x : CheckedChange) (e f : Effect) → affects d tables ws x e → affects d tables ws x f → e ≡ f
-one_effect d tables ws (changes.Insert table columns tuples) e f (shape, at, a) (shape', at', b) =
+one_effect d tables ws x e f (shape, at, a) (shape', at', b) =
     let same : shape ≡ shape' = same_Some shape shape' (sym at ∙ at') in
-    one_inserted d tables ws table shape (map (row_of shape columns) tuples) e f a
-    (subst (λ s. IsInserted d tables ws table s (map (row_of s columns) tuples) f) (sym same) b)
-one_effect d tables ws (changes.Update table sets condition) e f a b = absurd a
-one_effect d tables ws (changes.Delete table condition) e f a b = absurd a
+    one_done d (context most_transaction_writes shape tables ws) x e f a
+    (subst (λ s. IsEffect d (context most_transaction_writes s tables ws) x f) (sym same) b)
 
 -- READINGS AND ANSWERS
 
@@ -133,7 +129,7 @@ one_parsed one tokens (Fault at) (Fault at') f g = ap Fault (one_fault tokens at
 abbrev pub OneTokenList : Type 0
 OneTokenList = (at : ℕ) (text : List ℕ) (ts us : List Token) → Tokens at text ts → Tokens at text us → ts ≡ us
 
-one_reading : OneTokenList → OneTree → (script : Script) (item : Item) (r s : Reading Define Insert Asked) → reads script item r → reads script item s → r ≡ s
+one_reading : OneTokenList → OneTree → (script : Script) (item : Item) (r s : Reading Define Change Asked) → reads script item r → reads script item s → r ≡ s
 one_reading lists trees script (Sql from to) r s (p, (ts, tokens, is), e) (p', (ts', tokens', is'), e') =
     let same : ts ≡ ts' = lists from _ ts ts' tokens tokens' in
     e ∙ ap reading_of (one_parsed trees ts p p' is (subst (λ l. IsParsed l p') (sym same) is')) ∙ sym e'

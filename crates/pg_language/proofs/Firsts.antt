@@ -3,16 +3,13 @@ use Rattle.std.proofs.Common.{◌≡◌, ◌+◌, ℕ, List, [], ◌∷◌, ◌+
 use Rattle.std.specs.declared.option.Option.TheVariants.{Some, None}
 use Rattle.std.proofs.lemmas.Option.{same_Some}
 use Rattle.pg_lex.specs.declared.token.Token.{Token}
-use Rattle.pg_value.specs.declared.row.Row.{Row}
-use Rattle.pg_value.specs.declared.shape.TableNo.{TableNo}
-use Rattle.pg_value.specs.declared.shape.TableShape.{TableShape}
 use Rattle.pg_value.specs.declared.write.Write.{Write}
-use Rattle.pg_value.specs.Tables.{Tables}
 use Rattle.pg_ast.specs.declared.statement.Statement.{Statement}
 use Rattle.pg_ast.specs.Words.Terminals.{Tokens}
 use Rattle.pg_ast.specs.Grammar.{IsStatement, BeginsStatement, FirstFault}
+use Rattle.pg_meaning.specs.declared.checked.CheckedChange.{CheckedChange}
 use Rattle.pg_rules.specs.declared.fault.RowFault.{RowFault}
-use Rattle.pg_rules.specs.Changes.InsertEffect.{row_fault, IsFirstFault, AreRight}
+use Rattle.pg_rules.specs.Changes.ChangeEffect.{Context, fault_behind, IsFirstFault, IsDone}
 
 pub none_some : {X : Type 0} (x : X) → None ≡ Some x → ⊥
 none_some x h = cc
@@ -65,21 +62,17 @@ one_fault tokens at at' f g = go (places f.front f.token f.back g.front g.token 
 
 -- THE FIRST FAULTY ROW
 
-module _ (limit : ℕ) (table : TableNo) (shape : TableShape) (tables : Tables) (ws : List Write) (rows : List Row) where
-  abbrev First : ℕ → RowFault → Type 0
-  First n fault = IsFirstFault limit table shape tables ws rows n fault
+module _ (c : Context) (x : CheckedChange) where
+  pub not_done : (n : ℕ) (fault : RowFault) (ws : List Write) (rows : ℕ) → IsFirstFault c x n fault → IsDone c x ws rows → ⊥
+  not_done n fault ws rows f d = none_some fault (sym (d.right f.before f.after f.row f.rows) ∙ f.faulty)
 
-  pub not_right : (n : ℕ) (fault : RowFault) → First n fault → AreRight limit table shape tables ws rows → ⊥
-  not_right n fault (before, after, row, parts, number, faulty, first) right = none_some fault (sym (right before after row parts) ∙ faulty)
-
-  pub one_faulty_row : (n n' : ℕ) (fault fault' : RowFault) → First n fault → First n' fault' → (n ≡ n') × (fault ≡ fault')
-  one_faulty_row n n' fault fault' (before, after, row, parts, number, faulty, first) (before', after', row', parts', number', faulty', first') =
-      go (places before row after before' row' after' (sym parts ∙ parts'))
+  pub one_faulty_row : (n n' : ℕ) (fault fault' : RowFault) → IsFirstFault c x n fault → IsFirstFault c x n' fault' → (n ≡ n') × (fault ≡ fault')
+  one_faulty_row n n' fault fault' f g = go (places f.before f.row f.after g.before g.row g.after (sym f.rows ∙ g.rows))
     where
-      go : Places before row before' row' → (n ≡ n') × (fault ≡ fault')
+      go : Places f.before f.row g.before g.row → (n ≡ n') × (fault ≡ fault')
       go (same p q) = (
-        number ∙ ap (λ (l : List Row). length l + 1) p ∙ sym number',
-        same_Some fault fault' (sym faulty ∙ (λ i. row_fault limit table shape tables ws (p i) (q i)) ∙ faulty'),
+        f.counted ∙ ap (λ (l : List Write). length l + 1) p ∙ sym g.counted,
+        same_Some fault fault' (sym f.faulty ∙ (λ i. fault_behind c x (p i) (q i)) ∙ g.faulty),
       )
-      go (sooner m p) = absurd (none_some fault (sym (first' before m row p) ∙ faulty))
-      go (later m p) = absurd (none_some fault' (sym (first before' m row' p) ∙ faulty'))
+      go (sooner m p) = absurd (none_some fault (sym (g.right_before f.before m f.row p) ∙ f.faulty))
+      go (later m p) = absurd (none_some fault' (sym (f.right_before g.before m g.row p) ∙ g.faulty))

@@ -1,70 +1,29 @@
--- What an INSERT that is not refused writes fits: its values have their columns' kinds, and no row has a fault.
-use Rattle.std.proofs.Common.{ℕ, zero, suc, ◌≡◌, ◌+◌, ◌<◌, Bool, true, false, cond, refl, ap, sym, subst, ◌∙◌, List, [], ◌∷◌, ◌++◌, map, length, get_or, arith, inl, inr, eq-eqb}
-use Rattle.std.specs.Prelude.{ℤ, pos, negsuc, ◌≤ℤ◌, not, ◌==◌, ◌||◌, is_none, is_some, slice_get, nat_lt}
+-- A row whose values have the kinds of their columns, and of which none has a fault, fits its table, and its key fits the table's key.
+use Rattle.std.proofs.Common.{ℕ, zero, suc, ◌≡◌, ◌+◌, ◌<◌, Bool, true, false, cond, refl, ap, sym, subst, ◌∙◌, List, [], ◌∷◌, length, get_or, arith, inl, inr, eq-eqb}
+use Rattle.std.specs.Prelude.{ℤ, pos, negsuc, ◌≤ℤ◌, not, ◌==◌, ◌||◌, slice_get, nat_lt}
 use Rattle.std.specs.declared.option.Option.{Option}
 use Rattle.std.specs.declared.option.Option.TheVariants.{Some, None}
-use Rattle.std.specs.Option.{option_map, option_and_then, unwrap_or}
-use Rattle.std.specs.List.{flat_map, list_any, AllZip}
-use Rattle.std.proofs.lemmas.Bool.{not-false, eqb-true, ltb-true, ltb-false}
+use Rattle.std.specs.List.{list_any, AllZip}
+use Rattle.std.proofs.lemmas.Bool.{not-false, ltb-true, ltb-false}
 use Rattle.std.proofs.lemmas.Int.{ints}
-use Rattle.std.proofs.lemmas.List.FromFn.{length-map-range_with_len, get_or-map-range_with_len}
-use Rattle.std.proofs.lemmas.Option.{none-some, same_Some, slice_get-map, slice_get_within, get_or_from_slice_get}
+use Rattle.std.proofs.lemmas.Option.{none-some, same_Some, slice_get_within, get_or_from_slice_get}
 use Rattle.pg_keyed.specs.Lists.{Each, Among, each_among, each_of}
-use Rattle.pg_keyed.specs.Puts.{merge_each}
-use Rattle.pg_value.specs.Order.{place_cmp}
-use Rattle.pg_value.specs.Orders.{places}
-use Rattle.pg_value.specs.Writes.{named, merge}
 use Rattle.pg_value.specs.declared.value.Kind.{Kind}
 use Rattle.pg_value.specs.declared.value.Kind.TheVariants as kinds
 use Rattle.pg_value.specs.declared.value.Value.{Value}
 use Rattle.pg_value.specs.declared.value.Value.TheVariants.{Null, Int, Text, Bool as Truth}
 use Rattle.pg_value.specs.declared.row.Row.{Row}
-use Rattle.pg_value.specs.declared.shape.TableNo.{TableNo}
 use Rattle.pg_value.specs.declared.shape.ColumnShape.{ColumnShape}
 use Rattle.pg_value.specs.declared.shape.TableShape.{TableShape}
-use Rattle.pg_value.specs.declared.shape.Shapes.{Shapes}
-use Rattle.pg_value.specs.declared.write.Write.{Write}
-use Rattle.pg_value.specs.Tables.{Tables as Held, pick, FitsColumn, FitsRow, FitsKeyColumn, FitsKey, IsOfKind, FitsWrite, FitWrites}
-use Rattle.pg_ast.specs.declared.expr.Whole.{Whole}
-use Rattle.pg_ast.specs.declared.statement.Insert.{Insert}
-use Rattle.pg_ast.specs.declared.statement.InsertTuple.{InsertTuple}
-use Rattle.pg_rules.specs.declared.entry.ColumnEntry.{ColumnEntry}
-use Rattle.pg_rules.specs.declared.entry.TableEntry.{TableEntry}
-use Rattle.pg_rules.specs.declared.fault.ResolveFault.{ResolveFault}
-use Rattle.pg_rules.specs.declared.fault.ResolveFault.TheVariants as resolve
+use Rattle.pg_value.specs.Kinds.{same_kind}
+use Rattle.pg_value.specs.Tables.{pick, FitsColumn, FitsRow, FitsKeyColumn, FitsKey, IsOfKind}
+use Rattle.pg_meaning.specs.Typing.{may_be, value_kind}
 use Rattle.pg_rules.specs.declared.fault.RowFault.{RowFault}
 use Rattle.pg_rules.specs.declared.fault.RowFault.TheVariants as faults
-use Rattle.pg_ast.specs.Trees.{ExprTree, tree_of, Literal, Wide, ColumnOf, PropertyOf, One, Two, Group, Counted}
-use Rattle.pg_rules.specs.Catalog.{Tables, Defined}
-use Rattle.pg_rules.specs.Catalog.LookUps.{table_in, columns_named, columns_in}
-use Rattle.pg_rules.specs.Catalog.Shapes.{shapes, table_shape, table_shapes}
-use Rattle.pg_rules.specs.Catalog.Sound.{IsKeyColumn, IsSoundTable, IsSound}
-use Rattle.pg_rules.specs.Places.{place_if, first_fault, fault_at, least, sooner}
-use Rattle.pg_rules.specs.Definitions.Entries.{kind_at, kind_in, number_of}
-use Rattle.pg_rules.specs.Definitions.Graphs.{no_such}
-use Rattle.pg_value.specs.Kinds.{same_kind}
-use Rattle.pg_meaning.specs.Typing.{no_names, kind_of, may_be, value_kind}
-use Rattle.pg_rules.specs.ExprFaults.{types_at}
-use Rattle.pg_rules.specs.Changes.InsertJudgement.{insert_fault, targets, no_column, column_twice, count, types, wide, wrong_value, wrong_values, resolved, resolved_tuple}
-use Rattle.pg_rules.specs.Changes.InsertEffect.{AreRight, plain_value, given, row_of, write_of, in_range, is_key, null_fault, size_fault, value_fault, column_fault, or_else, with_rows}
-use Rattle.pg_value.specs.declared.value.Truth.{Truth as Logic}
-use Rattle.pg_value.specs.declared.value.Truth.TheVariants as logic
-use Rattle.pg_ast.specs.declared.expr.UnOp.{UnOp}
-use Rattle.pg_ast.specs.declared.expr.UnOp.TheVariants as un
-use Rattle.pg_ast.specs.declared.expr.BinOp.{BinOp}
-use Rattle.pg_ast.specs.declared.expr.BinOp.TheVariants as bin
-use Rattle.pg_meaning.specs.declared.checked.CExpr.{CExpr}
-use Rattle.pg_meaning.specs.declared.checked.CExpr.TheVariants as checked
-use Rattle.pg_meaning.specs.CExprs.{tree_unary, tree_binary}
-use Rattle.pg_meaning.specs.Meaning.{Scope, OfRow, value_of, as_value, on_numbers, minus, unary, binary}
-use Rattle.pg_meaning.specs.Typing.{unary_kind, binary_kind}
+use Rattle.pg_rules.specs.Changes.InsertEffect.{in_range, is_key, null_fault, size_fault, value_fault, column_fault, or_else}
+use Rattle.pg_language.proofs.ValueKinds.{false_true}
 
 -- LISTS
-
--- what holds of an item wherever the list is cut holds of each
-each_cut : {X : Type 0} (P : X → Type 0) (xs : List X) → ((front back : List X) (x : X) → xs ≡ front ++ x ∷ back → P x) → Each P xs
-each_cut P [] h = tt
-each_cut P (x ∷ xs) h = (h [] xs x refl, each_cut P xs (λ front back y e. h (x ∷ front) back y (ap (λ l. x ∷ l) e)))
 
 -- what holds of the items at each place holds of both lists
 zipped : {X Y : Type 0} (R : X → Y → Type 0) (xs : List X) (ys : List Y) → length xs ≡ length ys → ((i : ℕ) (x : X) (y : Y) → slice_get xs i ≡ Some x → slice_get ys i ≡ Some y → R x y) → AllZip R xs ys
@@ -80,37 +39,7 @@ there (x ∷ xs) (suc i) h = there xs i (omega arith)
 
 -- NO FAULT
 
-false_true : {P : Type 0} → false ≡ true → P
-false_true h = absurd cc
-
-some_sooner : (p : ℕ) (o : Option ℕ) → sooner (Some p) o ≡ None → ⊥
-some_sooner p None h = cc
-some_sooner p (Some q) h = cc
-
-least_none : (ps : List ℕ) → least ps ≡ None → ps ≡ []
-least_none [] h = refl
-least_none (p ∷ ps) h = absurd (some_sooner p (least ps) h)
-
-at_none : {F : Type 0} (f : ℕ → F) (o : Option ℕ) (later : Option F) → fault_at f o later ≡ None → (o ≡ None) × (later ≡ None)
-at_none f None later h = (refl, h)
-at_none f (Some p) later h = absurd cc
-
-first_none : {F : Type 0} (f : ℕ → F) (ps : List ℕ) (ks : List ((ℕ → F) × List ℕ)) → first_fault ((f, ps) ∷ ks) ≡ None → (ps ≡ []) × (first_fault ks ≡ None)
-first_none f ps ks h = let r = at_none f (least ps) (first_fault ks) h in (least_none ps r.0, r.1)
-
-append_none : (ps qs : List ℕ) → ps ++ qs ≡ [] → (ps ≡ []) × (qs ≡ [])
-append_none [] qs h = (refl, h)
-append_none (p ∷ ps) qs h = absurd cc
-
-flat_none : {X : Type 0} (f : X → List ℕ) (xs : List X) → flat_map f xs ≡ [] → Each (λ x. f x ≡ []) xs
-flat_none f [] h = tt
-flat_none f (x ∷ xs) h = let r = append_none (f x) (flat_map f xs) h in (r.0, flat_none f xs r.1)
-
-place_none : (b : Bool) (at : ℕ) → place_if (not b) at ≡ [] → b ≡ true
-place_none true at h = refl
-place_none false at h = absurd cc
-
-or_none : (a b : Option RowFault) → or_else a b ≡ None → (a ≡ None) × (b ≡ None)
+pub or_none : (a b : Option RowFault) → or_else a b ≡ None → (a ≡ None) × (b ≡ None)
 or_none None b h = (refl, h)
 or_none (Some f) b h = absurd cc
 
@@ -157,93 +86,6 @@ of_kind c (Int m) place n t = same_is c.kind kinds.Int t
 of_kind c (Text x) place n t = same_is c.kind kinds.Text t
 of_kind c (Truth b) place n t = same_is c.kind kinds.Bool t
 
--- THE KIND OF A VALUE
-
-truth_kept : (kind : Kind) (t : Logic) → may_be kind (Some kinds.Bool) ≡ true → may_be kind (value_kind (as_value t)) ≡ true
-truth_kept kind logic.True h = h
-truth_kept kind logic.False h = h
-truth_kept kind logic.Unknown h = refl
-
-minus_kept : (kind : Kind) (v : Value) → may_be kind (Some kinds.Int) ≡ true → may_be kind (value_kind (minus v)) ≡ true
-minus_kept kind Null h = refl
-minus_kept kind (Int n) h = h
-minus_kept kind (Text t) h = refl
-minus_kept kind (Truth b) h = refl
-
-numbers_kept : (kind : Kind) (f : ℤ → ℤ → ℤ) (u v : Value) → may_be kind (Some kinds.Int) ≡ true → may_be kind (value_kind (on_numbers f u v)) ≡ true
-numbers_kept kind f Null v h = refl
-numbers_kept kind f (Text t) v h = refl
-numbers_kept kind f (Truth b) v h = refl
-numbers_kept kind f (Int m) Null h = refl
-numbers_kept kind f (Int m) (Int n) h = h
-numbers_kept kind f (Int m) (Text t) h = refl
-numbers_kept kind f (Int m) (Truth b) h = refl
-
-unary_kept : (kind : Kind) (op : UnOp) (v : Value) → may_be kind (Some (unary_kind op)) ≡ true → may_be kind (value_kind (unary op v)) ≡ true
-unary_kept kind un.Minus v h = minus_kept kind v h
-unary_kept kind un.Not v h = truth_kept kind _ h
-unary_kept kind un.IsNull v h = h
-unary_kept kind un.IsNotNull v h = h
-
-binary_kept : (kind : Kind) (op : BinOp) (u v : Value) → may_be kind (Some (binary_kind op)) ≡ true → may_be kind (value_kind (binary op u v)) ≡ true
-binary_kept kind bin.Or u v h = truth_kept kind _ h
-binary_kept kind bin.And u v h = truth_kept kind _ h
-binary_kept kind bin.Eq u v h = truth_kept kind _ h
-binary_kept kind bin.Ne u v h = truth_kept kind _ h
-binary_kept kind bin.Lt u v h = truth_kept kind _ h
-binary_kept kind bin.Le u v h = truth_kept kind _ h
-binary_kept kind bin.Gt u v h = truth_kept kind _ h
-binary_kept kind bin.Ge u v h = truth_kept kind _ h
-binary_kept kind bin.Plus u v h = numbers_kept kind _ u v h
-binary_kept kind bin.Minus u v h = numbers_kept kind _ u v h
-binary_kept kind bin.Times u v h = numbers_kept kind _ u v h
-
-abbrev none_named : Scope
-none_named = OfRow (record { values = [] })
-
-of_one : (op : UnOp) (e : CExpr) → plain_value (checked.Unary op e) ≡ unary op (plain_value e)
-of_one op e = ap (λ t. value_of t none_named) (tree_unary op e)
-
-of_two : (op : BinOp) (e k : CExpr) → plain_value (checked.Binary op e k) ≡ binary op (plain_value e) (plain_value k)
-of_two op e k = ap (λ t. value_of t none_named) (tree_binary op e k)
-
--- the value of an expression that names nothing has the expression's kind, or is NULL
-kind_kept : (kind : Kind) (t : ExprTree) → may_be kind (kind_of no_names t) ≡ true → may_be kind (value_kind (plain_value (resolved [] t))) ≡ true
-kind_kept kind (Literal v bits at) h = h
-kind_kept kind (Wide at) h = refl
-kind_kept kind (ColumnOf n) h = refl
-kind_kept kind (PropertyOf v n) h = refl
-kind_kept kind (One op x at) h = ap (λ v. may_be kind (value_kind v)) (of_one op (resolved [] x)) ∙ unary_kept kind op (plain_value (resolved [] x)) h
-kind_kept kind (Two op x y at) h =
-    ap (λ v. may_be kind (value_kind v)) (of_two op (resolved [] x) (resolved [] y)) ∙ binary_kept kind op (plain_value (resolved [] x)) (plain_value (resolved [] y)) h
-kind_kept kind (Group agg x at) h = refl
-kind_kept kind (Counted v at) h = refl
-
--- VALUES AT THEIR PLACES
-
-abbrev value : Whole → Value
-value w = plain_value (resolved [] (tree_of w.expr))
-
-abbrev values_of : List Whole → List Value
-values_of ws = map plain_value (map (λ w. resolved [] (tree_of w.expr)) ws)
-
--- what a column is given has its kind
-given_kind : (columns : List ColumnEntry) (ts : List ℕ) (ws : List Whole) (column : ℕ) → wrong_values columns ts ws ≡ [] → may_be (kind_at columns column) (value_kind (given ts (values_of ws) column)) ≡ true
-given_kind columns [] ws column h = refl
-given_kind columns (t ∷ ts) [] column h = refl
-given_kind columns (t ∷ ts) (w ∷ ws) column h = go (t == column) refl (given_kind columns ts ws column (append_none (wrong_value (kind_at columns t) w) (wrong_values columns ts ws) h).1)
-  where
-    parts : (wrong_value (kind_at columns t) w ≡ []) × (wrong_values columns ts ws ≡ [])
-    parts = append_none (wrong_value (kind_at columns t) w) (wrong_values columns ts ws) h
-
-    first : may_be (kind_at columns t) (value_kind (value w)) ≡ true
-    first = kind_kept (kind_at columns t) (tree_of w.expr) (place_none (may_be (kind_at columns t) (kind_of no_names (tree_of w.expr))) w.at
-        (append_none (place_if (not (may_be (kind_at columns t) (kind_of no_names (tree_of w.expr)))) w.at) (types_at no_names (tree_of w.expr)) parts.0).0)
-
-    go : (b : Bool) → (t == column) ≡ b → may_be (kind_at columns column) (value_kind (given ts (values_of ws) column)) ≡ true → may_be (kind_at columns column) (value_kind (cond b (value w) (given ts (values_of ws) column))) ≡ true
-    go true e rest = subst (λ k. may_be (kind_at columns k) (value_kind (value w)) ≡ true) (eqb-true t column e) first
-    go false e rest = rest
-
 -- no value has a fault
 value_right : (shape : TableShape) (s : ℕ) (cs : List ColumnShape) (vs : List Value) (i : ℕ) (c : ColumnShape) (v : Value) → column_fault shape s cs vs ≡ None → slice_get cs i ≡ Some c → slice_get vs i ≡ Some v → value_fault shape c v (s + i) ≡ None
 value_right shape s [] vs i c v h e f = absurd (none-some c e)
@@ -256,11 +98,6 @@ value_right shape s (x ∷ cs) (y ∷ vs) zero c v h e f =
 value_right shape s (x ∷ cs) (y ∷ vs) (suc i) c v h e f =
     let on : s + suc i ≡ (s + 1) + i = omega arith in
     ap (value_fault shape c v) on ∙ value_right shape (s + 1) cs vs i c v (or_none (value_fault shape x y s) (column_fault shape (s + 1) cs vs) h).1 e f
-
--- the kind of a column is that of its shape
-kind_same : (o : Option ColumnEntry) (c : ColumnShape) → option_map (λ (e : ColumnEntry). e.shape) o ≡ Some c → kind_in o ≡ c.kind
-kind_same None c h = absurd (none-some c h)
-kind_same (Some e) c h = ap (λ (s : ColumnShape). s.kind) (same_Some e.shape c h)
 
 or_true : (b : Bool) → (b || true) ≡ true
 or_true true = refl
@@ -275,163 +112,33 @@ picked : (P : ℕ → Value → Type 0) (ks : List ℕ) (vs : List Value) → Ea
 picked P [] vs h = tt
 picked P (k ∷ ks) vs h = (h.0, picked P ks vs h.1)
 
--- A KEY
-
--- the column at a place of the key stands
-abbrev Stands : TableShape → ℕ → Type 0
-Stands shape k = (c : ColumnShape) × (slice_get shape.columns k ≡ Some c)
-
-keys_in : (columns : List ColumnEntry) (ks : List ℕ) → Each (IsKeyColumn columns) ks → Each (λ k. (c : ColumnShape) × (slice_get (map (λ (e : ColumnEntry). e.shape) columns) k ≡ Some c)) ks
-keys_in columns [] h = tt
-keys_in columns (k ∷ ks) h = (
-  (h.0.column.shape, slice_get-map (λ (e : ColumnEntry). e.shape) columns k ∙ ap (option_map (λ (e : ColumnEntry). e.shape)) h.0.stands),
-  keys_in columns ks h.1,
-)
-
--- in a sound catalog each does
-keys_stand : (tables : Tables) (t : ℕ) (shape : TableShape) → Each (λ (x : List ℕ × TableEntry). IsSoundTable x.1) tables → slice_get (table_shapes tables) t ≡ Some shape → Each (Stands shape) shape.key
-keys_stand [] t shape s at = absurd (none-some shape at)
-keys_stand (x ∷ tables) zero shape s at = subst (λ (y : TableShape). Each (Stands y) y.key) (same_Some (table_shape x.1) shape at) (keys_in x.1.columns x.1.key s.0.key)
-keys_stand (x ∷ tables) (suc t) shape s at = keys_stand tables t shape s.1 at
-
 -- A ROW
 
-module _ (shape : TableShape) (columns : List ColumnEntry) (same : map (λ (e : ColumnEntry). e.shape) columns ≡ shape.columns) (goals : List ℕ) (t : InsertTuple)
-    (typed : wrong_values columns goals t.values ≡ []) where
-  abbrev row : Row
-  row = row_of shape goals (resolved_tuple t)
+-- the column at a place of the key stands
+abbrev pub Stands : TableShape → ℕ → Type 0
+Stands shape k = (c : ColumnShape) × (slice_get shape.columns k ≡ Some c)
 
-  values_many : length row.values ≡ length shape.columns
-  values_many = length-map-range_with_len (given goals (values_of t.values)) 0 (length shape.columns)
+-- the value at each place has the kind of the column there, or is NULL
+abbrev pub HasKinds : TableShape → Row → Type 0
+HasKinds shape row = (i : ℕ) (c : ColumnShape) (v : Value) → slice_get shape.columns i ≡ Some c → slice_get row.values i ≡ Some v → may_be c.kind (value_kind v) ≡ true
 
-  value_at : (i : ℕ) (v : Value) → slice_get row.values i ≡ Some v → v ≡ given goals (values_of t.values) (0 + i)
-  value_at i v e =
-      let inside : i < length shape.columns = omega (arith, slice_get_within row.values i v e, values_many) in
-      sym (get_or_from_slice_get row.values i v Null e)
-      ∙ get_or-map-range_with_len (given goals (values_of t.values)) 0 (length shape.columns) i (0 + i) Null inside refl
+module _ (shape : TableShape) (row : Row) (many : length row.values ≡ length shape.columns) (has : HasKinds shape row) (right : column_fault shape 0 shape.columns row.values ≡ None) where
+  no_fault : (i : ℕ) (c : ColumnShape) (v : Value) → slice_get shape.columns i ≡ Some c → slice_get row.values i ≡ Some v → (null_fault (is_key shape i) c v i ≡ None) × (size_fault c v i ≡ None)
+  no_fault i c v e f =
+      let first : i ≡ 0 + i = omega arith in
+      or_none (null_fault (is_key shape i) c v i) (size_fault c v i) (ap (value_fault shape c v) first ∙ value_right shape 0 shape.columns row.values i c v right e f)
 
-  kind_fits : (i : ℕ) (c : ColumnShape) (v : Value) → slice_get shape.columns i ≡ Some c → slice_get row.values i ≡ Some v → may_be c.kind (value_kind v) ≡ true
-  kind_fits i c v e f =
-      let first : 0 + i ≡ i = omega arith in
-      let kind : kind_at columns (0 + i) ≡ c.kind = ap (kind_at columns) first ∙ kind_same (slice_get columns i) c (sym (slice_get-map (λ (e : ColumnEntry). e.shape) columns i) ∙ ap (λ cs. slice_get cs i) same ∙ e) in
-      ap (λ x. may_be c.kind (value_kind x)) (value_at i v f) ∙ ap (λ k. may_be k (value_kind (given goals (values_of t.values) (0 + i)))) (sym kind) ∙ given_kind columns goals t.values (0 + i) typed
+  pub row_fits : FitsRow shape row
+  row_fits = zipped FitsColumn shape.columns row.values (sym many)
+      (λ i c v e f. (let n = no_fault i c v e f in fits_column (is_key shape i) c v i n.0 n.1 (has i c v e f)))
 
-  module _ (right : column_fault shape 0 shape.columns row.values ≡ None) where
-    no_fault : (i : ℕ) (c : ColumnShape) (v : Value) → slice_get shape.columns i ≡ Some c → slice_get row.values i ≡ Some v → (null_fault (is_key shape i) c v i ≡ None) × (size_fault c v i ≡ None)
-    no_fault i c v e f =
-        let first : i ≡ 0 + i = omega arith in
-        or_none (null_fault (is_key shape i) c v i) (size_fault c v i) (ap (value_fault shape c v) first ∙ value_right shape 0 shape.columns row.values i c v right e f)
+  key_value : (k : ℕ) → Among k shape.key → (c : ColumnShape) → slice_get shape.columns k ≡ Some c → IsOfKind c.kind (get_or row.values k Null)
+  key_value k a c e =
+      let v = there row.values k (omega (arith, slice_get_within shape.columns k c e, many)) in
+      let n : null_fault true c v.0 k ≡ None = ap (λ b. null_fault b c v.0 k) (sym (key_is shape.key k a)) ∙ (no_fault k c v.0 e v.1).0 in
+      subst (IsOfKind c.kind) (sym (get_or_from_slice_get row.values k v.0 Null v.1)) (of_kind c v.0 k n (has k c v.0 e v.1))
 
-    row_fits : FitsRow shape row
-    row_fits = zipped FitsColumn shape.columns row.values (sym values_many)
-        (λ i c v e f. (let n = no_fault i c v e f in fits_column (is_key shape i) c v i n.0 n.1 (kind_fits i c v e f)))
-
-    key_value : (k : ℕ) → Among k shape.key → (c : ColumnShape) → slice_get shape.columns k ≡ Some c → IsOfKind c.kind (get_or row.values k Null)
-    key_value k a c e =
-        let v = there row.values k (omega (arith, slice_get_within shape.columns k c e, values_many)) in
-        let n : null_fault true c v.0 k ≡ None = ap (λ b. null_fault b c v.0 k) (sym (key_is shape.key k a)) ∙ (no_fault k c v.0 e v.1).0 in
-        subst (IsOfKind c.kind) (sym (get_or_from_slice_get row.values k v.0 Null v.1)) (of_kind c v.0 k n (kind_fits k c v.0 e v.1))
-
-    key_fits : Each (Stands shape) shape.key → FitsKey shape (record { values = pick shape.key row.values })
-    key_fits keys = picked (FitsKeyColumn shape.columns) shape.key row.values
-        (each_of (λ k. FitsKeyColumn shape.columns k (get_or row.values k Null)) shape.key
-        (λ k a. (let c = each_among (Stands shape) k shape.key keys a in (c.0, c.1, key_value k a c.0 c.1))))
-
-    write_fits : (all : Shapes) (table : TableNo) → slice_get all.tables table.0 ≡ Some shape → Each (Stands shape) shape.key → FitsWrite all (write_of table shape row)
-    write_fits all table at keys = (shape, at, key_fits keys, (row_fits, refl))
-
--- ALL ROWS
-
-module _ (all : Shapes) (table : TableNo) (shape : TableShape) (at : slice_get all.tables table.0 ≡ Some shape) (keys : Each (Stands shape) shape.key) where
-  abbrev Fits : Row → Type 0
-  Fits row = FitsWrite all (write_of table shape row)
-
-  rows_fit : (columns : List ColumnEntry) → map (λ (e : ColumnEntry). e.shape) columns ≡ shape.columns → (goals : List ℕ) (ts : List InsertTuple)
-      → Each (λ t. wrong_values columns goals t.values ≡ []) ts
-      → Each (λ row. column_fault shape 0 shape.columns row.values ≡ None) (map (row_of shape goals) (map resolved_tuple ts))
-      → Each Fits (map (row_of shape goals) (map resolved_tuple ts))
-  rows_fit columns same goals [] typed right = tt
-  rows_fit columns same goals (t ∷ ts) typed right =
-      (write_fits shape columns same goals t typed.0 right.0 all table at keys, rows_fit columns same goals ts typed.1 right.1)
-
-  written_fit : (writes : List Write) (rows : List Row) → FitWrites all writes → Each Fits rows → FitWrites all (with_rows table shape writes rows)
-  written_fit writes [] h f = h
-  written_fit writes (row ∷ rows) h f =
-      written_fit (merge writes (write_of table shape row ∷ [])) rows (merge_each named place_cmp places (FitsWrite all) writes (write_of table shape row ∷ []) h (f.0, tt)) f.1
-
--- THE STATEMENT
-
-none_is : {X : Type 0} (o : Option X) → is_none o ≡ true → o ≡ None
-none_is None h = refl
-none_is (Some x) h = false_true h
-
-some_at : {X : Type 0} (o : Option X) → is_some o ≡ true → (x : X) × (o ≡ Some x)
-some_at None h = false_true h
-some_at (Some x) h = (x, refl)
-
-shape_is : (shape : TableShape) (o : Option (List ℕ × TableEntry)) → option_map (λ (t : List ℕ × TableEntry). table_shape t.1) o ≡ Some shape → map (λ (e : ColumnEntry). e.shape) (columns_in o) ≡ shape.columns
-shape_is shape None h = absurd (none-some shape h)
-shape_is shape (Some e) h = ap (λ (s : TableShape). s.columns) (same_Some (table_shape e.1) shape h)
-
--- the columns of the table are those of its shape
-columns_are : (d : Defined) (i : Insert) (shape : TableShape) → no_such d.0 i.table ≡ [] → slice_get (shapes d).tables (number_of d.0 i.table.text).0 ≡ Some shape → map (λ (e : ColumnEntry). e.shape) (columns_named d.0 i.table.text) ≡ shape.columns
-columns_are d i shape exists at =
-    let k = some_at (table_in d.0 i.table.text) (place_none (is_some (table_in d.0 i.table.text)) i.table.at exists) in
-    let number : (number_of d.0 i.table.text).0 ≡ k.0 = ap (λ o. unwrap_or o 0) k.1 in
-    ap (λ o. map (λ (e : ColumnEntry). e.shape) (columns_in (option_and_then (slice_get d.0) o))) k.1
-    ∙ shape_is shape (slice_get d.0 k.0) (sym (slice_get-map (λ (t : List ℕ × TableEntry). table_shape t.1) d.0 k.0) ∙ ap (slice_get (shapes d).tables) (sym number) ∙ at)
-
--- the kinds of fault from one on
-abbrev from_wide : Insert → List ((ℕ → ResolveFault) × List ℕ)
-from_wide i = (resolve.Wide, wide i) ∷ []
-
-abbrev from_types : Tables → Insert → List ((ℕ → ResolveFault) × List ℕ)
-from_types tables i = (resolve.Types, types tables i) ∷ from_wide i
-
-abbrev from_count : Tables → Insert → List ((ℕ → ResolveFault) × List ℕ)
-from_count tables i = (resolve.Count, count tables i) ∷ from_types tables i
-
-abbrev from_twice : Tables → Insert → List ((ℕ → ResolveFault) × List ℕ)
-from_twice tables i = (resolve.ColumnTwice, column_twice i) ∷ from_count tables i
-
-abbrev from_column : Tables → Insert → List ((ℕ → ResolveFault) × List ℕ)
-from_column tables i = (resolve.NoColumn, no_column tables i) ∷ from_twice tables i
-
--- no place is faulty
-places_none : (tables : Tables) (i : Insert) → insert_fault tables i ≡ None → (no_such tables i.table ≡ []) × (types tables i ≡ [])
-places_none tables i h =
-    let a = first_none resolve.NoTable (no_such tables i.table) (from_column tables i) h in
-    let b = first_none resolve.NoColumn (no_column tables i) (from_twice tables i) a.1 in
-    let c = first_none resolve.ColumnTwice (column_twice i) (from_count tables i) b.1 in
-    let e = first_none resolve.Count (count tables i) (from_types tables i) c.1 in
-    let f = first_none resolve.Types (types tables i) (from_wide i) e.1 in
-    (a.0, f.0)
-
--- what an INSERT that is not refused makes of writes that fit, where no row has a fault
-pub inserted_fit : (d : Defined) (i : Insert) (all : Shapes) (limit : ℕ) (tables : Held) (ws : List Write) (shape : TableShape) → IsSound d → insert_fault d.0 i ≡ None
-    → slice_get (shapes d).tables (number_of d.0 i.table.text).0 ≡ Some shape → slice_get all.tables (number_of d.0 i.table.text).0 ≡ Some shape → FitWrites all ws
-    → AreRight limit (number_of d.0 i.table.text) shape tables ws (map (row_of shape (targets d.0 i)) (map resolved_tuple i.tuples))
-    → FitWrites all (with_rows (number_of d.0 i.table.text) shape ws (map (row_of shape (targets d.0 i)) (map resolved_tuple i.tuples)))
-inserted_fit d i all limit tables ws shape sound fine own at fit right =
-    written_fit all table shape at keys ws rows fit (rows_fit all table shape at keys columns (columns_are d i shape no_place.0 own) (targets d.0 i) i.tuples typed faultless)
-  where
-    table : TableNo
-    table = number_of d.0 i.table.text
-
-    columns : List ColumnEntry
-    columns = columns_named d.0 i.table.text
-
-    rows : List Row
-    rows = map (row_of shape (targets d.0 i)) (map resolved_tuple i.tuples)
-
-    no_place : (no_such d.0 i.table ≡ []) × (types d.0 i ≡ [])
-    no_place = places_none d.0 i fine
-
-    typed : Each (λ t. wrong_values columns (targets d.0 i) t.values ≡ []) i.tuples
-    typed = flat_none (λ (t : InsertTuple). wrong_values columns (targets d.0 i) t.values) i.tuples no_place.1
-
-    faultless : Each (λ row. column_fault shape 0 shape.columns row.values ≡ None) rows
-    faultless = each_cut (λ row. column_fault shape 0 shape.columns row.values ≡ None) rows (λ front back row e. (or_none (column_fault shape 0 shape.columns row.values) _ (right front back row e)).0)
-
-    keys : Each (Stands shape) shape.key
-    keys = keys_stand d.0 table.0 shape sound.tables own
+  pub key_fits : Each (Stands shape) shape.key → FitsKey shape (record { values = pick shape.key row.values })
+  key_fits keys = picked (FitsKeyColumn shape.columns) shape.key row.values
+      (each_of (λ k. FitsKeyColumn shape.columns k (get_or row.values k Null)) shape.key
+      (λ k a. (let c = each_among (Stands shape) k shape.key keys a in (c.0, c.1, key_value k a c.0 c.1))))

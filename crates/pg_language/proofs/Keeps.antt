@@ -1,9 +1,7 @@
 -- What definitions and changes keep: the tables that there are stand where they stood, and writes stay in order.
-use Rattle.std.proofs.Common.{◌≡◌, ℕ, zero, suc, List, [], ◌∷◌, ◌++◌, map, slice_get, sym, ap, subst}
+use Rattle.std.proofs.Common.{◌≡◌, ℕ, zero, suc, List, [], ◌∷◌, ◌++◌, slice_get, sym, ap, subst}
 use Rattle.std.specs.declared.option.Option.TheVariants.{Some}
 use Rattle.pg_keyed.specs.Puts.{merge_ascends}
-use Rattle.pg_value.specs.declared.row.Row.{Row}
-use Rattle.pg_value.specs.declared.shape.TableNo.{TableNo}
 use Rattle.pg_value.specs.declared.shape.TableShape.{TableShape}
 use Rattle.pg_value.specs.declared.write.Write.{Write}
 use Rattle.pg_value.specs.Order.{place_cmp}
@@ -11,12 +9,11 @@ use Rattle.pg_value.specs.Orders.{places}
 use Rattle.pg_value.specs.Writes.{named, merge, IsInOrder}
 use Rattle.pg_ast.specs.declared.define.Define.{Define}
 use Rattle.pg_ast.specs.declared.define.Define.TheVariants as definitions
-use Rattle.pg_meaning.specs.declared.checked.CheckedChange.TheVariants as changes
 use Rattle.pg_rules.specs.declared.entry.TableEntry.{TableEntry}
 use Rattle.pg_rules.specs.Catalog.{Defined}
 use Rattle.pg_rules.specs.Catalog.Shapes.{shapes, table_shapes}
 use Rattle.pg_rules.specs.Definitions.{with_definition}
-use Rattle.pg_rules.specs.Changes.InsertEffect.{row_of, with_rows, write_of}
+use Rattle.pg_rules.specs.Changes.ChangeEffect.{with_writes, proposed}
 use Rattle.pg_script.specs.Fitting.{Extends}
 use Rattle.pg_language.specs.Laws.{DefinitionsExtend, WritesStayInOrder}
 
@@ -34,13 +31,10 @@ pub definitions_extend : DefinitionsExtend
 definitions_extend d definition name d' (fine, is) =
     subst (λ k. Extends (shapes d) (shapes k)) (sym (ap (λ (x : List ℕ × Defined). x.1) is)) (extended d definition)
 
-rows_in_order : (table : TableNo) (shape : TableShape) (ws : List Write) (rows : List Row) → IsInOrder ws → IsInOrder (with_rows table shape ws rows)
-rows_in_order table shape ws [] h = h
-rows_in_order table shape ws (row ∷ rows) h =
-    rows_in_order table shape (merge ws (write_of table shape row ∷ [])) rows (merge_ascends named place_cmp places ws (write_of table shape row ∷ []) h (tt, tt))
+-- writes that are put one after another on writes in order leave them in order
+put_in_order : (ws more : List Write) → IsInOrder ws → IsInOrder (with_writes ws more)
+put_in_order ws [] h = h
+put_in_order ws (w ∷ more) h = put_in_order (merge ws (w ∷ [])) more (merge_ascends named place_cmp places ws (w ∷ []) h (tt, tt))
 
 pub writes_stay_in_order : WritesStayInOrder
-writes_stay_in_order d tables ws (changes.Insert table columns tuples) ws' rows h (shape, at, (right, written, count)) =
-    subst IsInOrder (sym written) (rows_in_order table shape ws (map (row_of shape columns) tuples) h)
-writes_stay_in_order d tables ws (changes.Update table sets condition) ws' rows h a = absurd a
-writes_stay_in_order d tables ws (changes.Delete table condition) ws' rows h a = absurd a
+writes_stay_in_order d tables ws x ws' rows h (shape, at, done) = subst IsInOrder (sym done.written) (put_in_order ws (proposed shape tables x) h)

@@ -2,5 +2,7 @@
 pub mod Firsts
 pub mod Exact
 pub mod Keeps
+pub mod ValueKinds
 pub mod FitRows
+pub mod FitChanges
 pub mod Fitting

@@ -1,26 +1,26 @@
 -- What the statements that run mean: how they are read, and what the catalog, a change and a query make of them.
-use Rattle.std.specs.Prelude.{ℕ, ◌≡◌, ◌⊎◌, Bool, true, false, cond, List, [], map, length, slice_get, get_or}
+use Rattle.std.specs.Prelude.{ℕ, ◌≡◌, ◌⊎◌, Bool, true, false, not, List, [], map, slice_get, get_or}
 use Rattle.std.specs.declared.option.Option.{Option}
 use Rattle.std.specs.declared.option.Option.TheVariants.{Some, None}
 use Rattle.std.specs.Option.{unwrap_or}
+use Rattle.std.specs.List.{list_all}
 use Rattle.std.specs.List.Sorted.{IsSorted}
-use Rattle.pg_keyed.specs.Lists.{Each}
-use Rattle.pg_value.specs.declared.row.Row.{Row}
 use Rattle.pg_value.specs.declared.shape.TableNo.{TableNo}
-use Rattle.pg_value.specs.declared.shape.TableSet.{TableSet}
 use Rattle.pg_value.specs.declared.shape.TableShape.{TableShape}
 use Rattle.pg_value.specs.declared.write.Write.{Write}
 use Rattle.pg_value.specs.Orders.{row_order}
 use Rattle.pg_value.specs.Tables.{Tables}
 use Rattle.pg_ast.specs.declared.define.Define.{Define}
 use Rattle.pg_ast.specs.declared.define.Define.TheVariants as definitions
-use Rattle.pg_ast.specs.declared.statement.Insert.{Insert}
 use Rattle.pg_ast.specs.declared.statement.Statement.{Statement}
 use Rattle.pg_ast.specs.declared.statement.Statement.TheVariants as statements
 use Rattle.pg_ast.specs.declared.pattern.Query.{Query}
 use Rattle.pg_meaning.specs.declared.checked.CheckedChange.{CheckedChange}
-use Rattle.pg_meaning.specs.declared.checked.CheckedChange.TheVariants as changes
+use Rattle.pg_meaning.specs.declared.checked.CheckedPath.{CheckedPath}
 use Rattle.pg_meaning.specs.declared.checked.CheckedQuery.{CheckedQuery}
+use Rattle.pg_meaning.specs.Outlines.{walks_on}
+use Rattle.pg_meaning.specs.Sound.Changes.{table_of}
+use Rattle.pg_meaning.specs.Sound.Patterns.{outlines}
 use Rattle.pg_rules.specs.declared.fault.DefineFault.{DefineFault}
 use Rattle.pg_rules.specs.declared.fault.DefineFault.TheVariants as define
 use Rattle.pg_rules.specs.declared.fault.ResolveFault.{ResolveFault}
@@ -31,8 +31,8 @@ use Rattle.pg_rules.specs.Catalog.{Defined}
 use Rattle.pg_rules.specs.Catalog.LookUps.{column_name_at}
 use Rattle.pg_rules.specs.Catalog.Shapes.{shapes}
 use Rattle.pg_rules.specs.Definitions.{define_fault, with_definition}
-use Rattle.pg_rules.specs.Changes.InsertJudgement.{insert_fault, resolved_insert}
-use Rattle.pg_rules.specs.Changes.InsertEffect.{row_of, with_rows, IsFirstFault, AreRight}
+use Rattle.pg_rules.specs.Changes.{Change, OfInsert, OfUpdate, OfDelete, change_fault, resolved_change}
+use Rattle.pg_rules.specs.Changes.ChangeEffect.{Context, context, IsFirstFault, IsDone}
 use Rattle.pg_meaning.specs.Answers.{Answer, column_names}
 use Rattle.pg_script.specs.declared.script.Item.{Item}
 use Rattle.pg_script.specs.declared.script.Item.TheVariants.{Sql, After}
@@ -45,16 +45,10 @@ use Rattle.pg_script.specs.Legal.{no_section}
 use Rattle.pg_sql.specs.declared.parsed.Parsed.{Parsed}
 use Rattle.pg_sql.specs.declared.parsed.Parsed.TheVariants as parsed
 use Rattle.pg_sql.specs.Parsed.{IsParsedOf}
-use Rattle.pg_rules.specs.Changes.PlainInsert.{is_plain}
-use Rattle.pg_ast.specs.Trees.{Every}
-use Rattle.pg_meaning.specs.declared.checked.CExpr.TheVariants.{Property}
-use Rattle.pg_meaning.specs.declared.checked.CheckedColumn.{CheckedColumn}
-use Rattle.pg_meaning.specs.HopQuery.{one_hop_query}
 use Rattle.pg_rules.specs.declared.fault.QueryFault.{QueryFault}
 use Rattle.pg_rules.specs.declared.fault.QueryFault.TheVariants as query
-use Rattle.pg_rules.specs.Catalog.GraphLookUps.{tables_of}
-use Rattle.pg_rules.specs.Queries.{graph_of, query_fault}
-use Rattle.pg_rules.specs.Queries.CheckedQueries.{checked_query, set_of}
+use Rattle.pg_rules.specs.Queries.{query_fault}
+use Rattle.pg_rules.specs.Queries.CheckedQueries.{checked_query}
 
 -- READING
 
@@ -62,22 +56,18 @@ use Rattle.pg_rules.specs.Queries.CheckedQueries.{checked_query, set_of}
 abbrev pub Asked : Type 0
 Asked = Query × ℕ
 
--- an INSERT without a list of columns whose values are literals is run
-abbrev pub says_insert : ℕ → Insert → Reading Define Insert Asked
-says_insert at i = cond (is_plain i) (Changes i) (Unread kinds.NotYet at)
-
 -- what a statement says, which begins at a place; one that is not run yet is refused there
-abbrev pub says : ℕ → Statement → Reading Define Insert Asked
+abbrev pub says : ℕ → Statement → Reading Define Change Asked
 says at (statements.Define d) = Defines d at
-says at (statements.Insert i) = says_insert at i
+says at (statements.Insert i) = Changes (OfInsert i)
+says at (statements.Update u) = Changes (OfUpdate u)
+says at (statements.Delete x) = Changes (OfDelete x)
 says at (statements.Query q) = Asks (q, at)
-says at (statements.Update u) = Unread kinds.NotYet at
-says at (statements.Delete d) = Unread kinds.NotYet at
 says at statements.Begin = Unread kinds.NotYet at
 says at statements.Commit = Unread kinds.NotYet at
 says at statements.Rollback = Unread kinds.NotYet at
 
-abbrev pub reading_of : Parsed → Reading Define Insert Asked
+abbrev pub reading_of : Parsed → Reading Define Change Asked
 reading_of (parsed.Statement tree at) = says at tree
 reading_of (parsed.Fault at) = Unread kinds.Syntax at
 
@@ -85,7 +75,7 @@ abbrev pub section_name : Script → ℕ → List ℕ
 section_name script n = (get_or script.sections n no_section).name
 
 -- an item of a script: a statement is a part of its text, and AFTER waits for the section that it names
-abbrev pub reads : Script → Item → Reading Define Insert Asked → Type 0
+abbrev pub reads : Script → Item → Reading Define Change Asked → Type 0
 reads script (Sql from to) r = (p : Parsed) × IsParsedOf script.text from to p × (r ≡ reading_of p)
 reads script (After section n) r = r ≡ Waits (section_name script section) section n
 
@@ -122,9 +112,9 @@ resolve_refusal (resolve.Types p) = Some (kinds.Types, p)
 resolve_refusal (resolve.Wide p) = Some (kinds.Wide, p)
 resolve_refusal resolve.Memory = None
 
-abbrev pub resolves : Defined → Insert → Ruling CheckedChange → Type 0
-resolves d i (Faulty kind at) = (f : ResolveFault) × (insert_fault d.0 i ≡ Some f) × (resolve_refusal f ≡ Some (kind, at))
-resolves d i (Fine x) = (insert_fault d.0 i ≡ None) × (x ≡ resolved_insert d.0 i)
+abbrev pub resolves : Defined → Change → Ruling CheckedChange → Type 0
+resolves d c (Faulty kind at) = (f : ResolveFault) × (change_fault d.0 c ≡ Some f) × (resolve_refusal f ≡ Some (kind, at))
+resolves d c (Fine x) = (change_fault d.0 c ≡ None) × (x ≡ resolved_change d.0 c)
 
 -- how many writes a transaction may have
 abbrev pub most_transaction_writes : ℕ
@@ -142,17 +132,14 @@ refusal_of d table row (row_faults.TooLong column) = IsAtColumn column_faults.To
 refusal_of d table row row_faults.Duplicate = IsDuplicate row
 refusal_of d table row row_faults.TooManyWrites = IsTooMany row
 
--- rows are put into a table: the first faulty one, or the writes then
-abbrev pub IsInserted : Defined → Tables → List Write → TableNo → TableShape → List Row → Effect → Type 0
-IsInserted d tables ws table shape rows (Stopped refusal) =
-    (row : ℕ) × (fault : RowFault) × IsFirstFault most_transaction_writes table shape tables ws rows row fault × (refusal ≡ refusal_of d table row fault)
-IsInserted d tables ws table shape rows (Done ws' n) = AreRight most_transaction_writes table shape tables ws rows × (ws' ≡ with_rows table shape ws rows) × (n ≡ length rows)
+-- what a checked change does: it is refused for its first faulty row, or these are the writes then, and so many rows were changed
+abbrev pub IsEffect : Defined → Context → CheckedChange → Effect → Type 0
+IsEffect d c x (Stopped refusal) = (row : ℕ) × (fault : RowFault) × IsFirstFault c x row fault × (refusal ≡ refusal_of d (table_of x) row fault)
+IsEffect d c x (Done ws rows) = IsDone c x ws rows
 
 abbrev pub affects : Defined → Tables → List Write → CheckedChange → Effect → Type 0
-affects d tables ws (changes.Insert table columns tuples) e =
-    (shape : TableShape) × (slice_get (shapes d).tables table.0 ≡ Some shape) × IsInserted d tables ws table shape (map (row_of shape columns) tuples) e
-affects d tables ws (changes.Update table sets condition) e = ⊥
-affects d tables ws (changes.Delete table condition) e = ⊥
+affects d tables ws x e =
+    (shape : TableShape) × (slice_get (shapes d).tables (table_of x).0 ≡ Some shape) × IsEffect d (context most_transaction_writes shape tables ws) x e
 
 -- QUERIES
 
@@ -169,24 +156,20 @@ query_refusal (query.Wide p) = Some (kinds.Wide, p)
 query_refusal (query.Limit p) = Some (kinds.Limit, p)
 query_refusal query.Memory = None
 
--- Until patterns are searched, of the queries that are not refused this one is run: (x)-[e]->(y) over all tables of its graph, whose columns
--- are plain properties.
-abbrev pub every_table : Defined → Query → Bool → TableSet
-every_table d q edges = set_of (tables_of d (graph_of d q) edges Every)
+-- WHICH QUERIES RUN: those of whose path patterns each has walks that end by themselves. It is bounded, or its mode is another than WALK.
+abbrev pub path_runs : CheckedPath → Bool
+path_runs p = not (walks_on p.mode (outlines p))
 
-abbrev pub IsProperty : CheckedColumn → Type 0
-IsProperty c = (x : ℕ) × (columns : List (Option ℕ)) × (c.expr ≡ Property x columns)
-
-abbrev pub IsOneHop : Defined → Query → CheckedQuery → Type 0
-IsOneHop d q y = (y ≡ one_hop_query y.graph (every_table d q false) (every_table d q true) y.columns) × Each IsProperty y.columns
+abbrev pub runs : CheckedQuery → Bool
+runs y = list_all path_runs y.paths
 
 -- another that is not refused is NotYet, where it begins
 abbrev pub IsNotYet : Defined → Asked → FaultKind → ℕ → Type 0
-IsNotYet d (q, begin) kind at = (query_fault d q ≡ None) × (IsOneHop d q (checked_query d q) → ⊥) × (kind ≡ kinds.NotYet) × (at ≡ begin)
+IsNotYet d (q, begin) kind at = (query_fault d q ≡ None) × (runs (checked_query d q) ≡ false) × (kind ≡ kinds.NotYet) × (at ≡ begin)
 
 abbrev pub checks : Defined → Asked → Ruling CheckedQuery → Type 0
 checks d (q, begin) (Faulty kind at) = ((f : QueryFault) × (query_fault d q ≡ Some f) × (query_refusal f ≡ Some (kind, at))) ⊎ IsNotYet d (q, begin) kind at
-checks d (q, begin) (Fine y) = (query_fault d q ≡ None) × (y ≡ checked_query d q) × IsOneHop d q y
+checks d (q, begin) (Fine y) = (query_fault d q ≡ None) × (y ≡ checked_query d q) × (runs y ≡ true)
 
 -- the rows of the answer, in value order
 abbrev pub answers : Defined → Tables → CheckedQuery → Found → Type 0
@@ -195,7 +178,7 @@ answers d tables y (Listed rows) = Answer (shapes d) tables y rows × IsSorted r
 -- THE WHOLE
 
 -- what the items of a script say
-abbrev pub language : Script → Judges Defined Define Insert Asked CheckedChange CheckedQuery
+abbrev pub language : Script → Judges Defined Define Change Asked CheckedChange CheckedQuery
 language script = record {
   reads = reads script;
   defines = defines;

@@ -10,7 +10,7 @@ ghost use Rattle.pg_script.specs.Fitting.{IsFitting};
 use crate::statements::Statements;
 use pg_lex::one_token_list;
 use pg_meaning::answers_are_one;
-use pg_rules::sound_definitions;
+use pg_rules::{resolved_expressions, sound_definitions};
 use pg_session::{legal_logs_fit, stepped_runs_are_one};
 use pg_sql::one_tree;
 
@@ -49,6 +49,7 @@ pub fn language_is_fitting()
     ensures { (script : Script) → IsFitting (language script) nothing }
 {
     sound_definitions();
+    resolved_expressions();
 }
 
 /// The law that each commit of a legal transcript fits the shapes of its definitions, and that its writes stand in order of

@@ -1,9 +1,9 @@
 //! The language of scripts as a type, by which laws that hold in any language are called.
 ghost use Rattle.pg_ast.specs.declared.define.Define.{Define};
-ghost use Rattle.pg_ast.specs.declared.statement.Insert.{Insert};
 ghost use Rattle.pg_meaning.specs.declared.checked.CheckedChange.{CheckedChange};
 ghost use Rattle.pg_meaning.specs.declared.checked.CheckedQuery.{CheckedQuery};
 ghost use Rattle.pg_rules.specs.Catalog.{Defined};
+ghost use Rattle.pg_rules.specs.Changes.{Change};
 ghost use Rattle.pg_language.specs.Language.{Asked, language};
 
 use pg_session::Language;
@@ -16,7 +16,7 @@ impl Language for Statements {
 
     ghost Definition = { Define };
 
-    ghost Change = { Insert };
+    ghost Change = { Change };
 
     ghost Query = { Asked };
 

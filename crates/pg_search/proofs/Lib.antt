@@ -1,10 +1,20 @@
 -- Why a search that visits each state once finds what the pattern allows.
 pub mod LinkedLists
 pub mod Visits
-pub mod Paths
+pub mod FoundBindings
 pub mod Putting
 pub mod KeptStates
 pub mod Numbers
 pub mod Neighbours
 pub mod Judged
 pub mod Asked
+pub mod ReadHops
+pub mod Adding
+pub mod Naming
+pub mod Following
+pub mod OneRound
+pub mod PuttingStates
+pub mod FromRounds
+pub mod Finding
+pub mod Vertices
+pub mod Searching

@@ -49,7 +49,7 @@ module _ {X : Type 0} where
   one_place (y ∷ xs) (suc i) zero x d h k = absurd (d.0 (get_in xs i y (h ∙ sym k)))
   one_place (y ∷ xs) (suc i) (suc j) x d h k = ap suc (one_place xs i j x d.1 h k)
 
-  last_is : (xs ys : List X) (x y : X) → xs ++ x ∷ [] ≡ ys ++ y ∷ [] → (xs ≡ ys) × (x ≡ y)
+  pub last_is : (xs ys : List X) (x y : X) → xs ++ x ∷ [] ≡ ys ++ y ∷ [] → (xs ≡ ys) × (x ≡ y)
   last_is [] [] x y h = (refl, let e : x ≡ y = cc in e)
   last_is [] (z ∷ []) x y h = absurd (cc)
   last_is [] (z ∷ w ∷ ys) x y h = absurd (cc)

@@ -6,6 +6,9 @@ use Rattle.std.specs.declared.result.Result.TheVariants.{Ok, Err}
 use Rattle.indexmap.proofs.CallerLemmas.{Contains-list_any}
 use Rattle.pg_meaning.specs.Bindings.{Distinct}
 use Rattle.pg_meaning.specs.Members.{in_nil, in_cons, in_one, distinct_append}
+use Rattle.pg_value.specs.declared.shape.ElemId.{ElemId}
+use Rattle.pg_value.specs.Graph.{same_elem}
+use Rattle.pg_value.specs.Hashing.{elem_equivalence}
 use Rattle.pg_search.specs.Puts.{IsPut}
 
 module _ {X : Type 0} (eq : X → X → Bool) (same : (a b : X) → eq a b ≡ true → a ≡ b) (self : (a : X) → eq a a ≡ true) where
@@ -37,3 +40,6 @@ distinct_put xs x more (inr p) d = subst Distinct (sym p.0) (distinct_append xs 
 pub distinct_after : {X T E : Type 0} (xs : List X) (x : X) (more : List X) (r : Result T E) → OnOk r (IsPut xs x more) → OnErr r (more ≡ xs) → Distinct xs → Distinct more
 distinct_after xs x more (Ok y) h k d = distinct_put xs x more h d
 distinct_after xs x more (Err e) h k d = subst Distinct (sym k) d
+
+pub same_self : (a : ElemId) → same_elem a a ≡ true
+same_self a = elem_equivalence.refl a

@@ -7,6 +7,7 @@ use Rattle.pg_meaning.specs.Bindings.{Distinct}
 use Rattle.pg_meaning.specs.Members.{in_nil, in_here, in_there, in_cons, in_one, in_left, in_right, in_append}
 use Rattle.pg_auto.specs.Stages.{Stage}
 use Rattle.pg_search.specs.Puts.{IsPut}
+use Rattle.pg_search.specs.Searches.{ArePut, Visits}
 use Rattle.pg_search.proofs.Putting.{distinct_put}
 use Rattle.pg_auto.specs.States.{Task, State, Walked, Completes, first_state, walked}
 use Rattle.pg_auto.specs.Successors.{successors}
@@ -14,11 +15,6 @@ use Rattle.pg_auto.specs.Steps.{IsSoundTask, StepsOn, StepsEnd}
 use Rattle.pg_auto.specs.Ranks.{AreBounded, IsValid, FirstIsValid, RanksFall, WeightsFall, rank, size, weight}
 
 -- PUTTING STATES BEHIND OTHERS
-
--- states stand behind the others, one after another, where they are not among them
-abbrev pub ArePut : List State → List State → List State → Type 0
-ArePut all [] more = all ≡ more
-ArePut all (c ∷ cs) more = (next : List State) × IsPut all c next × ArePut next cs more
 
 -- what was there stays, and what comes is of those that are put
 pub record Grows (all cs more : List State) : Type 0 where
@@ -66,15 +62,6 @@ distinct_all all [] more p d = subst Distinct p d
 distinct_all all (c ∷ cs) more p d = distinct_all p.0 cs more p.2 (distinct_put all c p.0 p.1 d)
 
 -- WHAT A SEARCH KEEPS
-
-pub record Visits (t : Task) (all : List State) (i : ℕ) : Type 0 where
-  pub begun : Contains all (first_state t.start)
-  pub distinct : Distinct all
-  -- what follows a visited state is there
-  pub closed : (k : ℕ) (s : State) (stage : Stage) → k < i → slice_get all k ≡ Some s → slice_get t.stages s.stage ≡ Some stage → (c : State) → Contains (successors t s stage) c → Contains all c
-  pub valid : (s : State) → Contains all s → IsValid t s
-  -- what completes a state that is there completes the first one
-  pub leads : (s : State) (w : Walked) → Contains all s → Completes t s w → Completes t (first_state t.start) w
 
 pub begins : FirstIsValid → (t : Task) → Visits t (first_state t.start ∷ []) 0
 begins first t = record {

@@ -1,6 +1,6 @@
 -- Lists that share their fronts. A list is known by a number: 0 is the empty one, and each other is an earlier list with an item behind it.
 -- An item is two numbers.
-use Rattle.std.specs.Prelude.{◌≡◌, ◌≤◌, ◌⊎◌, ◌==◌, ℕ, Bool, List, [], ◌∷◌, ◌++◌, slice_get, Some}
+use Rattle.std.specs.Prelude.{◌≡◌, ◌≤◌, ◌⊎◌, ◌==◌, ◌&&◌, not, ℕ, Bool, List, [], ◌∷◌, ◌++◌, slice_get, Some}
 use Rattle.std.specs.Option.{unwrap_or}
 use Rattle.pg_meaning.specs.Bindings.{Distinct}
 use Rattle.pg_search.specs.declared.chains.Link.{Link}
@@ -14,6 +14,10 @@ is_first n item = item.0 == n
 
 abbrev pub is_second : ℕ → ℕ × ℕ → Bool
 is_second n item = item.1 == n
+
+-- the same first number with another second one
+abbrev pub is_other : ℕ → ℕ → ℕ × ℕ → Bool
+is_other n m item = (item.0 == n) && not (item.1 == m)
 
 -- THE LISTS OF SOME LINKS
 

@@ -107,6 +107,22 @@ impl Chains {
         false
     }
 
+    /// Whether an item of a list has this first number with another second one, as mentions in which a variable names
+    /// another element. It goes back through the list.
+    pub fn has_other(&self, number: usize, first: usize, second: usize) -> bool
+        requires { number < length self.now }
+        ensures { result ≡ list_any (spec.is_other first second) (list_at self.now number) }
+    {
+        let mut at = number;
+        while let Some(link) = self.link(at) {
+            if link.first == first && link.second != second {
+                return true;
+            }
+            at = link.before;
+        }
+        false
+    }
+
     /// The items of a list, in order.
     pub fn items(&self, alloc: Global, number: usize) -> Result<Vec<(usize, usize)>, AllocError>
         requires { number < length self.now }

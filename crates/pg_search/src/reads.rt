@@ -1,5 +1,5 @@
 //! What a search reads of a view: the edges at a vertex.
-ghost use Rattle.std.specs.Prelude.{◌≡◌, ◌++◌, map, OnOk, OnErr};
+ghost use Rattle.std.specs.Prelude.{◌≡◌, ◌≤◌, ◌+◌, ◌++◌, map, OnOk, OnErr};
 ghost use Rattle.pg_meaning.specs.Reads.{neighbours_of};
 ghost use Rattle.pg_view.specs.Neighbours as spec;
 ghost use Rattle.pg_view.specs.Neighbours.{neighbour};
@@ -34,6 +34,8 @@ pub fn push_neighbours<V: View, L: Ledger>(
 ) -> Result<(), AllocError>
     ensures ok { OnOk result (out.new ≡ out.old ++ map neighbour (neighbours_of (V.shapes view.now) (V.tables view.now) edge dir vertex.now)) }
     ensures err { OnErr result (out.new ≡ out.old) }
+    ensures counts { steps.old ≤ steps.new }
+    ensures cost { steps.new ≤ steps.old + V.hop_cost view.now edge dir vertex.now.key }
 {
     match view.shapes().edges.get(edge.0 as usize) {
         Some(shape) => {

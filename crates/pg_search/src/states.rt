@@ -1,5 +1,5 @@
 //! The states that a search keeps, each once, in the order in which they are found.
-ghost use Rattle.std.specs.Prelude.{◌≡◌, [], slice_get, OnOk, OnErr};
+ghost use Rattle.std.specs.Prelude.{◌≡◌, [], length, slice_get, OnOk, OnErr};
 ghost use Rattle.pg_meaning.specs.Bindings.{Distinct};
 ghost use Rattle.pg_search.specs.Puts.{IsPut};
 
@@ -44,6 +44,13 @@ impl States {
         States {
             kept: IndexSet::new(alloc),
         }
+    }
+
+    /// How many states there are.
+    pub fn len(&self) -> usize
+        ensures { result ≡ length self.now }
+    {
+        self.kept.len()
     }
 
     /// The state at a place, from 0; None exactly where there are no more.

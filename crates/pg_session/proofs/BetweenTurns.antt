@@ -10,7 +10,7 @@ use Rattle.pg_script.specs.declared.outcome.Outcome.{Outcome}
 use Rattle.pg_script.specs.Judged.{Judges, Session, Open}
 use Rattle.pg_script.specs.Session.{all_printed, raised, NumbersWithin, IsMet, whole, Runs}
 use Rattle.pg_script.specs.Legal.{items_of, places, setup_of}
-use Rattle.pg_session.specs.Core.{Core, pin_of, most_over_base}
+use Rattle.pg_core.specs.Core.{Core, pin_of, most_over_base}
 use Rattle.pg_session.specs.Stepped.{World, no_run, outs_of, session_at, first_seen}
 use Rattle.pg_session.proofs.ItemCore.{IsNear, IsPeakFit}
 

@@ -15,10 +15,11 @@ use Rattle.pg_value.specs.Log.{conflict, IsFull}
 use Rattle.pg_script.specs.declared.outcome.Outcome.{Outcome}
 use Rattle.pg_script.specs.declared.outcome.Outcome.TheVariants.{Defined, Began, Changed, ChangedAlone, Committed, CommitEmpty, RolledBack, Rows, After, AtByte, AlreadyOpen, NotOpen, Duplicate, TooManyWrites, AtColumn, Conflict, LogFull}
 use Rattle.pg_script.specs.Judged.{Open}
-use Rattle.pg_session.specs.declared.event.Event.{Event}
-use Rattle.pg_session.specs.declared.event.Event.TheVariants as events
-use Rattle.pg_session.specs.declared.event.Reply.{Reply}
-use Rattle.pg_session.specs.Core.{Core, is_listed, pinned, pin_count, distinct, listed, kept, seen_peak, pin_of, most_over_base, base_after, after_pin, after_release, after_commit, after_mark, after_redefine, IsTaken, CommitAnswers, conflicts, fills, takes, CanCome, Step, refuses, pins, releases, commits, fold_stopped, fold_not_yet, fold_begins, install_stale, installs, abandons, marks, ends, stops, Steps}
+use Rattle.pg_core.specs.declared.event.Event.{Event}
+use Rattle.pg_core.specs.declared.event.Event.TheVariants as events
+use Rattle.pg_core.specs.declared.event.Reply.{Reply}
+use Rattle.pg_pins.specs.Held.{is_among as is_listed, pinned_numbers as pinned, distinct}
+use Rattle.pg_core.specs.Core.{Core, pin_count, listed, kept, seen_peak, pin_of, most_over_base, base_after, after_pin, after_release, after_commit, after_mark, after_redefine, IsTaken, CommitAnswers, conflicts, fills, takes, CanCome, Step, refuses, pins, releases, commits, fold_stopped, fold_not_yet, fold_begins, install_stale, installs, abandons, marks, ends, stops, Steps}
 use Rattle.pg_session.specs.Stepped.{alone, refused_commit, events_of, leaving, marking, AfterItem}
 use Rattle.pg_session.proofs.Within.{adds}
 

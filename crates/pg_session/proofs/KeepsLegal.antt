@@ -18,9 +18,9 @@ use Rattle.pg_script.specs.declared.outcome.Outcome.{Outcome}
 use Rattle.pg_script.specs.Judged.{Judges, Session, Open, Judged}
 use Rattle.pg_script.specs.Session.{number, printed, all_printed, raised, NumbersWithin, IsMet, whole, Runs}
 use Rattle.pg_script.specs.Legal.{no_section, items_of, places, setup_of}
-use Rattle.pg_session.specs.declared.event.Event.{Event}
-use Rattle.pg_session.specs.declared.event.Event.TheVariants as events
-use Rattle.pg_session.specs.Core.{Core, pin_of, after_redefine, Steps}
+use Rattle.pg_core.specs.declared.event.Event.{Event}
+use Rattle.pg_core.specs.declared.event.Event.TheVariants as events
+use Rattle.pg_core.specs.Core.{Core, pin_of, after_redefine, Steps}
 use Rattle.pg_session.specs.Stepped.{World, Run, no_run, now, outs_of, session_at, first_seen, seen_at, next_item, base_of, events_of, leaving, marking, AfterItem, is_last, item_events}
 use Rattle.pg_session.proofs.LogLaws.{lawful_more, held_append}
 use Rattle.pg_session.proofs.Numbers.{raised_within, numbers_up, numbers_more, number_within, raised_more, printed_more}

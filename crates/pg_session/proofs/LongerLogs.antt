@@ -8,7 +8,7 @@ use Rattle.pg_value.specs.Writes.{Limited}
 use Rattle.pg_script.specs.declared.outcome.Outcome.{Outcome}
 use Rattle.pg_script.specs.Judged.{Session, Open}
 use Rattle.pg_script.specs.Session.{NumbersWithin, IsMet, whole}
-use Rattle.pg_session.specs.Core.{most_over_base}
+use Rattle.pg_core.specs.Core.{most_over_base}
 use Rattle.pg_session.specs.Stepped.{World, now, outs_of, base_of}
 use Rattle.pg_session.proofs.LogLaws.{conflict_take, conflict_bounds}
 use Rattle.pg_session.proofs.Numbers.{numbers_take}

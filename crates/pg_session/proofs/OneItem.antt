@@ -12,9 +12,9 @@ use Rattle.pg_script.specs.declared.outcome.Outcome.{Outcome}
 use Rattle.pg_script.specs.declared.outcome.Outcome.TheVariants.{Defined, Began, Changed, ChangedAlone, Committed, CommitEmpty, RolledBack, Rows, After, AtByte, AlreadyOpen, NotOpen, Duplicate, TooManyWrites, AtColumn, Conflict, LogFull}
 use Rattle.pg_script.specs.Judged.{Judges, Session, Open, Refusal, IsDuplicate, IsTooMany, IsAtColumn, refused, Judged, View, WorksOn, Ends, logged, conflicted, filled, unread, already_open, begun, commit_not_open, rollback_not_open, rolled_back, commit_empty, committed, defines_in_session, defines_in_transaction, define_fault, defined, change_fault, change_stopped, changed, changed_none, changed_alone, query_fault, answered, waited}
 use Rattle.pg_script.specs.Session.{number, printed}
-use Rattle.pg_session.specs.declared.event.Event.{Event}
-use Rattle.pg_session.specs.declared.event.Event.TheVariants as events
-use Rattle.pg_session.specs.Core.{IsTaken}
+use Rattle.pg_core.specs.declared.event.Event.{Event}
+use Rattle.pg_core.specs.declared.event.Event.TheVariants as events
+use Rattle.pg_core.specs.Core.{IsTaken}
 use Rattle.pg_session.specs.Stepped.{World, now, outs_of, alone, refused_commit, events_of}
 use Rattle.pg_session.proofs.Within.{adds}
 use Rattle.pg_session.proofs.ItemCore.{IsOwn, Tried}

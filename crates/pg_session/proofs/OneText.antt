@@ -19,10 +19,10 @@ use Rattle.pg_script.specs.declared.outcome.Outcome.TheVariants.{Defined, Began,
 use Rattle.pg_script.specs.Text.{name_at, text_of}
 use Rattle.pg_script.specs.Judged.{Reading, Unread, Begins, Commits, RollsBack, Defines, Changes, Asks, Waits, Ruling, Faulty, Fine, Refusal, IsDuplicate, IsTooMany, IsAtColumn, refused, Effect, Stopped, Done, Found, Listed, Judges, Session, Open, View, InTransaction, AtStart, WorksOn, Judged, Ends, logged, conflicted, filled, with_open, unread, already_open, begun, commit_not_open, rollback_not_open, rolled_back, commit_empty, committed, defines_in_session, defines_in_transaction, define_fault, defined, change_fault, change_stopped, changed, changed_none, changed_alone, query_fault, answered, waited}
 use Rattle.pg_script.specs.Exact.{IsExact, AsksPlain}
-use Rattle.pg_session.specs.declared.event.Event.{Event}
-use Rattle.pg_session.specs.declared.event.Event.TheVariants as events
-use Rattle.pg_session.specs.declared.event.Reply.{Reply}
-use Rattle.pg_session.specs.Core.{Core, CommitAnswers, conflicts, fills, takes, Steps}
+use Rattle.pg_core.specs.declared.event.Event.{Event}
+use Rattle.pg_core.specs.declared.event.Event.TheVariants as events
+use Rattle.pg_core.specs.declared.event.Reply.{Reply}
+use Rattle.pg_core.specs.Core.{Core, CommitAnswers, conflicts, fills, takes, Steps}
 use Rattle.pg_session.specs.Stepped.{World, outs_of, session_at, seen_at, base_of, now, HasAnswered, events_of, leaving, marking, AfterItem, next_item, is_last, item_events, Did, IsIdle, Turn, Turns, transcript_of}
 use Rattle.pg_session.specs.Legality.{SteppedRunsAreOne}
 use Rattle.pg_session.proofs.ItemCore.{Makes, IsOwn, step_makes, events_own, rest_own}

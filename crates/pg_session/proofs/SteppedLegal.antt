@@ -14,7 +14,7 @@ use Rattle.pg_script.specs.declared.transcript.Transcript.{Transcript}
 use Rattle.pg_script.specs.Judged.{Judges, Session}
 use Rattle.pg_script.specs.Session.{IsMet, whole, Runs, raised, NumbersWithin, all_printed}
 use Rattle.pg_script.specs.Legal.{no_section, items_of, no_answers, outcomes_of, setup_of, section_out, IsLegalSection, Legal}
-use Rattle.pg_session.specs.Core.{pin_of}
+use Rattle.pg_core.specs.Core.{pin_of}
 use Rattle.pg_session.specs.Stepped.{World, Run, no_run, outs_of, session_at, first_seen, Did, IsIdle, Turn, Turns, run_out, setup_turns, last_turns, first_world, seats_of, section_outs, transcript_of, Stepped, AreSessionTurns, Earlier}
 use Rattle.pg_session.specs.TurnsJoin.{turns_split}
 use Rattle.pg_session.specs.Legality.{SteppedRunsAreLegal}

@@ -18,8 +18,8 @@ use Rattle.pg_script.specs.declared.outcome.Outcome.TheVariants.{Began, Changed,
 use Rattle.pg_value.specs.Log.{conflict, conflict_after, held, view}
 use Rattle.pg_script.specs.Judged.{Judges, Open, Commits, Changes, Waits, Fine, Done, committed, changed_alone, waited, logged, conflicted}
 use Rattle.pg_script.specs.Legal.{items_of}
-use Rattle.pg_session.specs.declared.event.Reply.TheVariants as replies
-use Rattle.pg_session.specs.Core.{Core, IsTaken, kept, pin_count, base_after, seen_peak, after_commit, CanCommit, conflicts, takes, pins as pinned_by, commits, releases, marks}
+use Rattle.pg_core.specs.declared.event.Reply.TheVariants as replies
+use Rattle.pg_core.specs.Core.{Core, IsTaken, kept, pin_count, base_after, seen_peak, after_commit, CanCommit, conflicts, takes, pins as pinned_by, commits, releases, marks}
 use Rattle.pg_session.specs.Stepped.{World, Run, Turn}
 
 -- THE WRITES AND THE COMMITS

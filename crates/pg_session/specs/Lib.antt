@@ -1,4 +1,3 @@
-pub mod Core
 pub mod Stepped
 pub mod TurnsJoin
 pub mod Legality

@@ -17,9 +17,9 @@ use Rattle.pg_script.specs.declared.transcript.Transcript.{Transcript}
 use Rattle.pg_script.specs.Judged.{Judges, History, Session, Open, Judged, Waits}
 use Rattle.pg_script.specs.Session.{raised}
 use Rattle.pg_script.specs.Legal.{items_of, setup_of}
-use Rattle.pg_session.specs.declared.event.Event.{Event}
-use Rattle.pg_session.specs.declared.event.Event.TheVariants as events
-use Rattle.pg_session.specs.Core.{Core, first_core, after_redefine, IsTaken, Steps}
+use Rattle.pg_core.specs.declared.event.Event.{Event}
+use Rattle.pg_core.specs.declared.event.Event.TheVariants as events
+use Rattle.pg_core.specs.Core.{Core, first_core, after_redefine, IsTaken, Steps}
 
 -- the base under a statement of this section: its pin's, or the current one
 abbrev pub base_of : Core → ℕ → ℕ

@@ -1,2 +1,3 @@
--- Why the expressions of the tests are sound.
+-- Why the expressions and the change of the tests are sound.
 pub mod Literals
+pub mod SoundInsert

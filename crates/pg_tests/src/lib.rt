@@ -5,9 +5,9 @@
 #[cfg(test)]
 mod adjacency;
 #[cfg(test)]
-mod expressions;
+mod changes;
 #[cfg(test)]
-mod inserts;
+mod expressions;
 #[cfg(test)]
 mod outside;
 #[cfg(test)]

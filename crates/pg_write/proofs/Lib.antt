@@ -1,10 +1,12 @@
-mod Literals
 mod Columns
 mod Loops
-mod ValueLaws
-mod RowLaws
-mod EffectLaws
-pub mod FitLaws
 pub mod Missing
 pub mod VerdictLaws
 pub mod TargetLaws
+pub mod KeyLaws
+pub mod JudgedLaws
+pub mod ProposedLaws
+pub mod TakenLaws
+pub mod CheckedLaws
+pub mod ApplyLaws
+pub mod FittingLaws

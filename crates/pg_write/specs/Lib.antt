@@ -1,6 +1,5 @@
-pub mod PlainInsert
-pub mod LiteralFaults
-pub mod FaultyRows
-pub mod WritesFit
 pub mod ChangePasses
 pub mod ChangeVerdict
+pub mod ChangeEffects
+pub mod JudgedRows
+pub mod KeyOfCondition

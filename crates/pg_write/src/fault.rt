@@ -1,7 +1,7 @@
-//! Why a change is refused over the tables.
+//! The first faulty row of a change.
 use pg_rules::RowFault;
 
-/// Why an INSERT is refused over the tables.
+/// Why the rows of a change are refused, before the writes are handed back.
 #[derive(Clone, Copy)]
 pub enum EffectFault {
     /// The first faulty row, counted from 1, and what is wrong with it.

@@ -1,20 +1,22 @@
-//! What an INSERT without a list of columns does, whose values are all literals: where it is refused before it reads the
-//! tables, and the writes that it makes, or its first faulty row.
+//! Changes: where INSERT, UPDATE and DELETE are refused before they read the tables, and their effect over them, which is the
+//! writes then or the first faulty row.
 #![tactic(auto)]
 
+mod apply;
 mod change;
 mod column;
-mod effect;
 mod fault;
+mod judged;
+mod keyed;
 mod laws;
-mod plain;
-mod put;
-mod resolve;
-mod row;
+mod proposed;
+mod refused;
+mod scan;
+mod tables;
+mod values;
 
+pub use apply::effect;
 pub use change::resolve::{resolve_change, resolve_delete, resolve_update, resolve_values};
-pub use effect::insert_rows;
-pub use fault::EffectFault;
-pub use laws::writes_fit;
-pub use plain::is_plain;
-pub use resolve::resolve_insert;
+pub use laws::effects_fit;
+pub use refused::EffectRefused;
+pub use tables::{TableLists, TableRows};

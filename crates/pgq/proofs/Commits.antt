@@ -1,3 +1,4 @@
 pub mod LongerLog
 pub mod RowPuts
 pub mod StillReady
+pub mod TakenOut

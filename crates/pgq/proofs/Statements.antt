@@ -1,9 +1,4 @@
 pub mod Definitions
-pub mod InsertEffects
-pub mod InsertRows
-pub mod Inserts
+pub mod Changes
 pub mod Outcomes
 pub mod Queries
-pub mod SoundGraphs
-pub mod AdmittedTables
-pub mod OneHopForm

@@ -1,24 +1,22 @@
 -- What runs a script's statements holds between two of them, and what one statement does to it.
-use Rattle.std.specs.Prelude.{ℕ, ◌≡◌, ◌+◌, ◌-◌, ◌==◌, ◌≤◌, ◌<◌, ◌^◌, false, cond, nat_lt, List, [], ◌++◌, map, length, replicate, get_or, slice_set}
+use Rattle.std.specs.Prelude.{ℕ, ◌≡◌, ◌+◌, ◌-◌, ◌==◌, ◌≤◌, ◌<◌, ◌^◌, false, cond, nat_lt, List, [], ◌++◌, length, replicate, get_or, slice_set}
 use Rattle.std.specs.declared.option.Option.TheVariants.{None}
-use Rattle.pg_keyed.specs.Keyed.{Each}
 use Rattle.pg_value.specs.Tables.{held_in}
 use Rattle.pg_value.specs.Log.{after, held}
 use Rattle.pg_value.specs.Writes.{Limited}
 use Rattle.pg_value.specs.TablesLaws.{FitLog}
 use Rattle.pg_meaning.specs.Sound.Graphs.{AreSoundShapes}
 use Rattle.pg_ast.specs.declared.define.Define.{Define}
-use Rattle.pg_ast.specs.declared.statement.Insert.{Insert}
 use Rattle.pg_rules.specs.Catalog.{Defined}
+use Rattle.pg_rules.specs.Changes.{Change}
 use Rattle.pg_rules.specs.Catalog.LookUps.{nothing}
 use Rattle.pg_rules.specs.Catalog.Shapes.{shapes}
-use Rattle.pg_meaning.specs.Bindings.{Distinct}
 use Rattle.pg_script.specs.declared.script.Item.{Item}
 use Rattle.pg_script.specs.declared.script.Script.{Script}
 use Rattle.pg_script.specs.declared.outcome.Outcome.{Outcome}
 use Rattle.pg_script.specs.Judged.{Judged, Session, Reading}
 use Rattle.pgq.specs.declared.engine.Engine.{Engine}
-use Rattle.pg_session.specs.Core.{Core, most_over_base}
+use Rattle.pg_core.specs.Core.{Core, most_over_base}
 use Rattle.pg_session.specs.Stepped.{now, events_of, marking, AfterItem}
 use Rattle.pg_language.specs.Language.{Asked, language, reads, most_transaction_writes}
 
@@ -26,17 +24,12 @@ use Rattle.pg_language.specs.Language.{Asked, language, reads, most_transaction_
 abbrev pub most_log_writes : ℕ
 most_log_writes = 4194304
 
--- no two edge tables of a graph are one table
-abbrev pub AreSound : Defined → Type 0
-AreSound d = Each (λ g. Distinct (map (λ e. e.element.table) g.1.edges)) d.1
-
 -- Between two statements: the lists are the tables after the whole log, the shapes are the catalog's and sound, each commit fits them, the log is within its limit, at
 -- most 256 versions stand over the base, and the peak has counted the base.
 pub record IsReady (e : Engine) : Type 0 where
   pub each : (t : ℕ) → held_in (record { 0 = t }) (after e.log (length e.log)) ≡ get_or e.tables.items t []
   pub as_many : length e.tables.items ≡ length e.catalog.0
   pub shapes_are : e.shapes ≡ shapes e.catalog
-  pub sound : AreSound e.catalog
   pub sound_shapes : AreSoundShapes e.shapes
   pub fit : FitLog e.shapes e.log
   pub held_all : e.held ≡ held e.log
@@ -97,5 +90,5 @@ pub record Answers (script : Script) (n : ℕ) (e : Engine) (item : Item) (o : O
       → AfterItem (shapes e'.catalog) most_log_writes (core_of sections counts e) (events_of n None writes o ++ marking n) o (core_of sections (counts_then n 1 counts) e')
 
 -- the same of whatever item says this, in any script
-abbrev pub AnswersTo : Reading Define Insert Asked → ℕ → Engine → Outcome → Engine → Type 0
+abbrev pub AnswersTo : Reading Define Change Asked → ℕ → Engine → Outcome → Engine → Type 0
 AnswersTo r n e o e' = (script : Script) (item : Item) → reads script item r → Answers script n e item o e'

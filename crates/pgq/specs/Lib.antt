@@ -5,7 +5,7 @@ pub mod Bytes
 pub mod Engine
 pub mod Sections
 pub mod Definitions
-pub mod Insertions
+pub mod Changes
 pub mod Commits
 pub mod Refusals
-pub mod OneHop
+pub mod Asking

@@ -3,15 +3,16 @@ ghost use Rattle.std.specs.Prelude.{ℕ, ◌≡◌, ◌<◌, ◌≤◌, ◌+◌,
 ghost use Rattle.pg_keyed.specs.Keyed.{Ascends, Each};
 ghost use Rattle.pg_value.specs.Order.{key_cmp};
 ghost use Rattle.pg_value.specs.Log.{held};
+ghost use Rattle.pg_value.specs.Writes.{IsInOrder};
 ghost use Rattle.pg_value.specs.TablesLaws.{key_of, key_named, put_in};
-ghost use Rattle.pg_session.specs.Core.{base_after};
+ghost use Rattle.pg_core.specs.Core.{base_after};
 ghost use Rattle.pgq.specs.Engine.{IsReady, most_log_writes, peak_after};
 ghost use Rattle.pg_language.specs.Language.{most_transaction_writes};
-ghost use Rattle.pgq.specs.Commits.{HasRow, IsRowOf, IsAppended, IsCommitted, HasEnded};
+ghost use Rattle.pgq.specs.Commits.{IsTo, AreAlike, IsAppended, IsCommitted, HasEnded};
 ghost use Rattle.pg_value.specs.Tables.{FitWrites};
 
 use crate::engine::Engine;
-use crate::rows::put_rows;
+use crate::rows::put_writes;
 use pg_chunks::Chunks;
 use pg_script::Outcome;
 use pg_value::{Commit, Stored, TableNo, Writes};
@@ -47,7 +48,7 @@ fn peak_after(base: u64, found: u64, peak: (u64, u64)) -> (u64, u64)
     }
 }
 
-/// Puts the rows of writes among those of their table.
+/// Puts writes to a table among its rows.
 fn put_in_table(
     alloc: Global,
     tables: &mut Vec<Chunks<Stored>>,
@@ -56,11 +57,13 @@ fn put_in_table(
 ) -> Result<(), AllocError>
     requires within { table.0 < length tables.old.items }
     requires ascends { Ascends key_of key_cmp (get_or tables.old.items table.0 []) }
+    requires table { Each (λ s. s.table ≡ table) (get_or tables.old.items table.0 []) }
     requires writes { Ascends key_named key_cmp writes.now.list }
-    requires present { Each HasRow writes.now.list }
+    requires own { Each (IsTo table) writes.now.list }
+    requires alike { AreAlike writes.now.list }
     ensures { OnOk result (tables.new.items ≡ slice_set tables.old.items table.0 (put_in (get_or tables.old.items table.0 []) writes.now.list)) }
 {
-    put_rows(alloc, &mut tables[table.0 as usize], writes)
+    put_writes(alloc, &mut tables[table.0 as usize], table, writes)
 }
 
 /// Appends a commit to the log, and counts it.
@@ -86,18 +89,20 @@ fn accept(
     section: u32,
     table: TableNo,
     writes: Writes,
+    rows: u64,
 ) -> Result<Outcome, AllocError>
     requires ready { IsReady engine.old }
     requires table { table.0 < length engine.old.tables.items }
-    requires rows { Each (IsRowOf table) writes.list }
+    requires own { Each (IsTo table) writes.list }
+    requires alike { AreAlike writes.list }
+    requires in_order { IsInOrder writes.list }
     requires limit { writes.limit ≡ most_transaction_writes }
     requires fits { FitWrites engine.old.shapes writes.list }
     requires room { held engine.old.log + length writes.list ≤ most_log_writes }
     ensures ready { OnOk result (IsReady engine.new) }
     ensures committed { OnOk result (IsCommitted section engine.old writes.list engine.new) }
-    ensures outcome { IfOk result (λ o. o ≡ Outcome.ChangedAlone (length writes.list) (length engine.old.log) (length engine.old.log + 1)) }
+    ensures outcome { IfOk result (λ o. o ≡ Outcome.ChangedAlone rows (length engine.old.log) (length engine.old.log + 1)) }
 {
-    let rows = writes.len();
     let from = engine.log.len() as u64;
     put_in_table(alloc, &mut engine.tables, table, &writes)?;
     let commit = Commit {
@@ -110,34 +115,35 @@ fn accept(
     Ok(Outcome::ChangedAlone { rows, from, at })
 }
 
-/// Commits the writes of a statement of a section that gives rows of one table: answers `Changed` of no row where there is
-/// none, `LogFull` where the log has no room for them, and either way leaves all as it was; else `ChangedAlone`. After want
-/// of memory the engine is of no use.
+/// Commits the writes of a statement of a section that changes so many rows of one table: answers `Changed` where there is
+/// none, `LogFull` where the log has no room for the writes, and either way leaves all as it was; else `ChangedAlone`. After
+/// want of memory the engine is of no use.
 pub fn commit(
     alloc: Global,
     engine: &mut Engine,
     section: u32,
     table: TableNo,
     writes: Writes,
+    rows: u64,
 ) -> Result<Outcome, AllocError>
     requires ready { IsReady engine.old }
     requires table { table.0 < length engine.old.tables.items }
-    requires rows { Each (IsRowOf table) writes.list }
+    requires own { Each (IsTo table) writes.list }
+    requires alike { AreAlike writes.list }
     requires limit { writes.limit ≡ most_transaction_writes }
     requires fits { FitWrites engine.old.shapes writes.list }
     ensures ready { OnOk result (IsReady engine.new) }
-    ensures ended { IfOk result (λ o. HasEnded section engine.old writes.list o engine.new) }
+    ensures ended { IfOk result (λ o. HasEnded section engine.old writes.list rows o engine.new) }
 {
     let at = engine.log.len() as u64;
-    let count = writes.len();
-    if count == 0 {
-        return Ok(Outcome::Changed { rows: 0, at });
+    if rows == 0 {
+        return Ok(Outcome::Changed { rows, at });
     }
-    if count > MOST_LOG_WRITES - engine.held {
+    if writes.len() > MOST_LOG_WRITES - engine.held {
         return Ok(Outcome::LogFull {
             from: at,
             held: engine.held,
         });
     }
-    accept(alloc, engine, section, table, writes)
+    accept(alloc, engine, section, table, writes, rows)
 }

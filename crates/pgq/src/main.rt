@@ -5,11 +5,10 @@ ghost use Rattle.std.specs.Prelude.{◌≡◌, ◌⊎◌, IfErr};
 
 mod asking;
 mod bytes;
+mod change;
 mod commit;
 mod definition;
 mod engine;
-mod insertion;
-mod one_hop;
 mod refusal;
 mod rows;
 mod run;

@@ -3,37 +3,20 @@ ghost use Rattle.std.specs.Prelude.{◌≡◌, ◌<◌, ◌^◌, length, IfOk, O
 ghost use Rattle.pg_script.specs.declared.script.Item.TheVariants.{Sql};
 ghost use Rattle.pg_lex.specs.Parts.{IsPartAt};
 ghost use Rattle.pgq.specs.Engine.{IsReady, Answers, AnswersTo};
-ghost use Rattle.pg_language.specs.Language.{says, says_insert, reading_of};
+ghost use Rattle.pgq.specs.Asking.{IsWrittenParsed};
+ghost use Rattle.pg_rules.specs.Written.{IsWritten};
+ghost use Rattle.pg_language.specs.Language.{says, reading_of};
 
 use crate::asking::ask;
+use crate::change::change;
 use crate::definition::define;
 use crate::engine::Engine;
-use crate::insertion::insert;
 use crate::refusal::not_yet;
-use pg_ast::{Insert, Statement};
+use pg_ast::Statement;
+use pg_rules::written_statements;
 use pg_script::{FaultKind, Outcome, Script};
 use pg_sql::{Parsed, read_statement};
-use pg_write::is_plain;
 use std::alloc::{AllocError, Global};
-
-/// Carries out an INSERT that begins at a place, or refuses it there where it is not run yet.
-fn run_insert(
-    alloc: Global,
-    engine: &mut Engine,
-    section: u32,
-    statement: &Insert,
-    at: u32,
-) -> Result<Outcome, AllocError>
-    requires { IsReady engine.old }
-    ensures ready { OnOk result (IsReady engine.new) }
-    ensures answers { IfOk result (λ o. AnswersTo (says_insert at statement.now) section engine.old o engine.new) }
-{
-    if is_plain(statement) {
-        insert(alloc, engine, section, statement)
-    } else {
-        Ok(not_yet(at))
-    }
-}
 
 /// Carries out a statement that begins at a place, or refuses it there where it is not run yet.
 fn carry_out(
@@ -43,16 +26,17 @@ fn carry_out(
     tree: &Statement,
     at: u32,
 ) -> Result<Outcome, AllocError>
-    requires { IsReady engine.old }
+    requires ready { IsReady engine.old }
+    requires written { IsWritten tree.now }
     ensures ready { OnOk result (IsReady engine.new) }
     ensures answers { IfOk result (λ o. AnswersTo (says at tree.now) section engine.old o engine.new) }
 {
     match tree {
         Statement::Define(definition) => define(alloc, engine, section, definition, at),
-        Statement::Insert(insert) => run_insert(alloc, engine, section, insert, at),
+        Statement::Insert(_) => change(alloc, engine, section, tree),
+        Statement::Update(_) => change(alloc, engine, section, tree),
+        Statement::Delete(_) => change(alloc, engine, section, tree),
         Statement::Query(query) => ask(alloc, engine, section, query, at),
-        Statement::Update(_) => Ok(not_yet(at)),
-        Statement::Delete(_) => Ok(not_yet(at)),
         Statement::Begin => Ok(not_yet(at)),
         Statement::Commit => Ok(not_yet(at)),
         Statement::Rollback => Ok(not_yet(at)),
@@ -66,7 +50,8 @@ fn answer_parsed(
     section: u32,
     parsed: &Parsed,
 ) -> Result<Outcome, AllocError>
-    requires { IsReady engine.old }
+    requires ready { IsReady engine.old }
+    requires written { IsWrittenParsed parsed.now }
     ensures ready { OnOk result (IsReady engine.new) }
     ensures answers { IfOk result (λ o. AnswersTo (reading_of parsed.now) section engine.old o engine.new) }
 {
@@ -96,6 +81,7 @@ pub fn answer(
     ensures ready { OnOk result (IsReady engine.new) }
     ensures answers { IfOk result (λ o. Answers script.now section engine.old (Sql from to) o engine.new) }
 {
+    written_statements();
     let parsed = read_statement(alloc, &script.text, from, to)?;
     answer_parsed(alloc, engine, section, &parsed)
 }

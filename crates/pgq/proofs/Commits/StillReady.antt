@@ -1,10 +1,10 @@
--- What runs the statements is still ready after a commit of rows of one table.
+-- What runs the statements is still ready after a commit of writes to one table.
 use Rattle.std.proofs.Common.{◌≡◌, ℕ, ◌+◌, ◌-◌, ◌≤◌, ◌<◌, List, [], ◌∷◌, Bool, true, false, cond, length, get_or, refl, ap, sym, subst, ◌∙◌, arith, eq-eqb, length-append, length-set}
 use Rattle.std.specs.Prelude.{◌==◌, slice_set, nat_lt}
 use Rattle.std.proofs.lemmas.Bool.{eqb-true, eqb-false}
 use Rattle.std.proofs.lemmas.List.{get_or-set_same, get_or-set_other}
 use Rattle.pg_keyed.specs.Keyed.{Ascends, Each}
-use Rattle.pg_keyed.specs.Lists.{each_map}
+use Rattle.pg_keyed.specs.Lists.{each_map, each_kept}
 use Rattle.pg_keyed.specs.Puts.{put_nothing}
 use Rattle.pg_value.specs.declared.shape.TableNo.{TableNo}
 use Rattle.pg_value.specs.declared.write.Write.{Write}
@@ -17,13 +17,13 @@ use Rattle.pg_value.specs.Log.{after, held, put, row_given}
 use Rattle.pg_value.specs.TablesLaws.{key_of, key_named, put_in, writes_to, held_put_in, held_ascends, writes_ascend, after_in_order}
 use Rattle.pg_rules.specs.Catalog.Shapes.{shapes}
 use Rattle.pgq.specs.declared.engine.Engine.{Engine}
-use Rattle.pg_session.specs.Core.{base_after}
+use Rattle.pg_core.specs.Core.{base_after}
 use Rattle.pg_keyed.specs.Lists.{each_append}
 use Rattle.pg_value.specs.Tables.{FitWrites}
 use Rattle.pg_value.specs.TablesLaws.{FitLog}
 use Rattle.pg_meaning.specs.Sound.Graphs.{AreSoundShapes}
-use Rattle.pgq.specs.Engine.{IsReady, AreSound, most_log_writes, peak_after}
-use Rattle.pgq.specs.Commits.{HasRow, IsRowOf, IsAppended}
+use Rattle.pgq.specs.Engine.{IsReady, most_log_writes, peak_after}
+use Rattle.pgq.specs.Commits.{IsTo, IsAppended}
 use Rattle.pgq.proofs.Commits.LongerLog.{after_more, held_more}
 
 -- THE BASE AND THE PEAK
@@ -48,20 +48,20 @@ peak_some base found peak l = go (found - base == 256) (nat_lt peak.0 2)
 
 -- THE TABLES
 
--- rows of one table are all of the writes to it, and none to another
-all_to : (table : TableNo) (t : ℕ) (ws : List Write) → (table.0 == t) ≡ true → Each (IsRowOf table) ws → writes_to (record { 0 = t }) ws ≡ ws
+-- writes to one table are all of the writes to it, and none to another
+pub all_to : (table : TableNo) (t : ℕ) (ws : List Write) → (table.0 == t) ≡ true → Each (IsTo table) ws → writes_to (record { 0 = t }) ws ≡ ws
 all_to table t [] q h = refl
-all_to table t (w ∷ ws) q h = rw (ap (λ (k : TableNo). k.0 == t) h.0.0 ∙ q) (ap (λ vs. w ∷ vs) (all_to table t ws q h.1))
+all_to table t (w ∷ ws) q h = rw (ap (λ (k : TableNo). k.0 == t) h.0 ∙ q) (ap (λ vs. w ∷ vs) (all_to table t ws q h.1))
 
-none_to : (table : TableNo) (t : ℕ) (ws : List Write) → (table.0 == t) ≡ false → Each (IsRowOf table) ws → writes_to (record { 0 = t }) ws ≡ []
+none_to : (table : TableNo) (t : ℕ) (ws : List Write) → (table.0 == t) ≡ false → Each (IsTo table) ws → writes_to (record { 0 = t }) ws ≡ []
 none_to table t [] q h = refl
-none_to table t (w ∷ ws) q h = rw (ap (λ (k : TableNo). k.0 == t) h.0.0 ∙ q) (none_to table t ws q h.1)
+none_to table t (w ∷ ws) q h = rw (ap (λ (k : TableNo). k.0 == t) h.0 ∙ q) (none_to table t ws q h.1)
 
 -- the lists of all tables, with the writes put into one of them
 abbrev with_writes : List (List Stored) → TableNo → List Write → List (List Stored)
 with_writes lists table ws = slice_set lists table.0 (put_in (get_or lists table.0 []) ws)
 
-held_then : (tables : Tables) (lists : List (List Stored)) (table : TableNo) (t : ℕ) (ws : List Write) → held_in (record { 0 = t }) tables ≡ get_or lists t [] → table.0 < length lists → Each (IsRowOf table) ws
+held_then : (tables : Tables) (lists : List (List Stored)) (table : TableNo) (t : ℕ) (ws : List Write) → held_in (record { 0 = t }) tables ≡ get_or lists t [] → table.0 < length lists → Each (IsTo table) ws
     → put_in (held_in (record { 0 = t }) tables) (writes_to (record { 0 = t }) ws) ≡ get_or (with_writes lists table ws) t []
 held_then tables lists table t ws h l r = go (table.0 == t) refl
   where
@@ -90,7 +90,7 @@ module _ (table : TableNo) (c : Commit) (e e' : Engine) (r : IsReady e) (a : IsA
   longer : length e'.log ≡ length e.log + 1
   longer = ap length a.log ∙ length-append e.log (c ∷ [])
 
-  pub still_ready : table.0 < length e.tables.items → Each (IsRowOf table) ws → IsInOrder ws → held e.log + length ws ≤ most_log_writes
+  pub still_ready : table.0 < length e.tables.items → Each (IsTo table) ws → IsInOrder ws → held e.log + length ws ≤ most_log_writes
       → e'.tables.items ≡ slice_set e.tables.items table.0 (put_in (get_or e.tables.items table.0 []) ws) → FitWrites e.shapes ws → IsReady e'
   still_ready within rows in_order room lists fits = record {
     each = λ t.
@@ -100,7 +100,6 @@ module _ (table : TableNo) (c : Commit) (e e' : Engine) (r : IsReady e) (a : IsA
         ∙ ap (λ xs. get_or xs t []) (sym lists);
     as_many = ap length lists ∙ length-set e.tables.items table.0 _ ∙ r.as_many ∙ sym (ap (λ d. length d.0) a.catalog);
     shapes_are = a.shapes ∙ r.shapes_are ∙ sym (ap shapes a.catalog);
-    sound = subst AreSound (sym a.catalog) r.sound;
     sound_shapes = subst AreSoundShapes (sym a.shapes) r.sound_shapes;
     fit = subst (λ s. FitLog s e'.log) (sym a.shapes) (subst (FitLog e.shapes) (sym a.log) (each_append (λ x. FitWrites e.shapes x.writes.list) e.log (c ∷ []) r.fit (fits, tt)));
     held_all = a.held ∙ ap (λ h. h + length ws) r.held_all ∙ sym (ap held a.log ∙ held_more e.log c);
@@ -115,8 +114,11 @@ module _ (table : TableNo) (c : Commit) (e e' : Engine) (r : IsReady e) (a : IsA
 pub list_ascends : (e : Engine) (t : ℕ) → IsReady e → Ascends key_of key_cmp (get_or e.tables.items t [])
 list_ascends e t r = subst (Ascends key_of key_cmp) (r.each t) (held_ascends (record { 0 = t }) (after e.log (length e.log)) (after_in_order e.log (length e.log)))
 
-pub writes_ascend_by_key : (table : TableNo) (ws : List Write) → Each (IsRowOf table) ws → IsInOrder ws → Ascends key_named key_cmp ws
+pub writes_ascend_by_key : (table : TableNo) (ws : List Write) → Each (IsTo table) ws → IsInOrder ws → Ascends key_named key_cmp ws
 writes_ascend_by_key table ws r o = subst (Ascends key_named key_cmp) (all_to table table.0 ws (eq-eqb table.0 table.0 refl) r) (writes_ascend table ws o)
 
-pub all_rows : (table : TableNo) (ws : List Write) → Each (IsRowOf table) ws → Each HasRow ws
-all_rows table ws r = each_map (IsRowOf table) HasRow (λ w h. h.1) ws r
+-- each row in a table's list is of that table
+pub of_table : (e : Engine) (table : TableNo) → IsReady e → Each (λ (s : Stored). s.table ≡ table) (get_or e.tables.items table.0 [])
+of_table e table r = subst (Each (λ (s : Stored). s.table ≡ table)) (r.each table.0)
+    (each_map (λ (s : Stored). (s.table.0 == table.0) ≡ true) (λ s. s.table ≡ table) (λ s h i. record { 0 = eqb-true s.table.0 table.0 h i }) (held_in table (after e.log (length e.log)))
+    (each_kept (λ (s : Stored). s.table.0 == table.0) (after e.log (length e.log))))

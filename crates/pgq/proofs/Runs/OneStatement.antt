@@ -12,10 +12,12 @@ use Rattle.pg_value.specs.declared.shape.Shapes.{Shapes}
 use Rattle.pg_value.specs.declared.write.Commit.{Commit}
 use Rattle.pg_value.specs.Writes.{Limited}
 use Rattle.pg_value.specs.Log.{held, conflict, IsFull}
-use Rattle.pg_session.specs.declared.event.Event.{Event}
-use Rattle.pg_session.specs.declared.event.Event.TheVariants as events
-use Rattle.pg_session.specs.declared.event.Reply.TheVariants as replies
-use Rattle.pg_session.specs.Core.{Core, Build, pinned, pin_count, distinct, kept, seen_peak, pin_of, base_after, after_pin, after_release, after_commit, after_mark, after_redefine, IsTaken, fills, takes, CanCommit, CanCome, IsNotBuilding, pins, releases, commits, marks, Steps}
+use Rattle.pg_core.specs.declared.event.Event.{Event}
+use Rattle.pg_core.specs.declared.event.Build.{Build}
+use Rattle.pg_core.specs.declared.event.Event.TheVariants as events
+use Rattle.pg_core.specs.declared.event.Reply.TheVariants as replies
+use Rattle.pg_pins.specs.Held.{pinned_numbers as pinned, distinct}
+use Rattle.pg_core.specs.Core.{Core, pin_count, kept, seen_peak, pin_of, base_after, after_pin, after_release, after_commit, after_mark, after_redefine, IsTaken, fills, takes, CanCommit, CanCome, IsNotBuilding, pins, releases, commits, marks, Steps}
 use Rattle.pg_session.specs.Stepped.{marking}
 use Rattle.pgq.specs.Engine.{peak_after}
 

@@ -1,11 +1,10 @@
 -- A setup and at most one session whose statements have all been answered are a stepped run, which is legal.
-use Rattle.std.proofs.Common.{◌≡◌, ℕ, zero, suc, ◌+◌, ◌<◌, ◌≤◌, Bool, true, false, cond, List, [], ◌∷◌, ◌++◌, length, drop, get_or, inl, refl, sym, subst, ap, ◌∙◌, arith, append-nil}
+use Rattle.std.proofs.Common.{◌≡◌, ℕ, zero, suc, ◌+◌, ◌<◌, ◌≤◌, false, List, [], ◌∷◌, ◌++◌, length, drop, get_or, inl, refl, sym, subst, ap, ◌∙◌, arith, append-nil}
 use Rattle.std.proofs.lemmas.List.{replicate-append-replicate}
 use Rattle.std.proofs.lemmas.Option.{none-some, same_Some, slice_get_past}
 use Rattle.std.specs.Prelude.{replicate, slice_get, ◌^◌}
 use Rattle.std.specs.declared.option.Option.TheVariants.{Some, None}
 use Rattle.pg_ast.specs.declared.define.Define.{Define}
-use Rattle.pg_ast.specs.declared.statement.Insert.{Insert}
 use Rattle.pg_ast.specs.declared.statement.Statement.{Statement}
 use Rattle.pg_ast.specs.declared.statement.Statement.TheVariants as statements
 use Rattle.pg_rules.specs.Catalog.{Defined}
@@ -13,14 +12,13 @@ use Rattle.pg_rules.specs.Catalog.LookUps.{nothing}
 use Rattle.pg_keyed.specs.Lists.{Each}
 use Rattle.pg_sql.specs.declared.parsed.Parsed.{Parsed}
 use Rattle.pg_sql.specs.declared.parsed.Parsed.TheVariants as parsed
-use Rattle.pg_rules.specs.Changes.PlainInsert.{is_plain}
+use Rattle.pg_rules.specs.Changes.{Change}
 use Rattle.pg_script.specs.declared.script.Item.{Item}
 use Rattle.pg_script.specs.declared.script.Item.TheVariants.{Sql}
 use Rattle.pg_script.specs.declared.script.Section.{Section}
 use Rattle.pg_script.specs.declared.script.Script.{Script}
-use Rattle.pg_script.specs.declared.outcome.FaultKind.TheVariants as kinds
 use Rattle.pg_script.specs.declared.outcome.Outcome.{Outcome}
-use Rattle.pg_script.specs.Judged.{Judges, Reading, Unread, Changes, Waits}
+use Rattle.pg_script.specs.Judged.{Judges, Reading, Waits}
 use Rattle.pg_script.specs.Legal.{no_section, items_of}
 use Rattle.pgq.specs.declared.engine.Engine.{Engine}
 use Rattle.pg_session.specs.Stepped.{World, Run, no_run, next_item, Turns, run_out, setup_turns, last_turns, first_world, seats_of, Stepped, AreSessionTurns}
@@ -134,16 +132,12 @@ stepped_of script (s ∷ t ∷ []) (outs ∷ more ∷ []) first last short e som
 stepped_of script (s ∷ t ∷ []) (outs ∷ more ∷ x ∷ answers) first last short e some few order f h all = absurd (omega (arith, all))
 
 -- no item of this language waits
-abbrev waits : List ℕ → ℕ → ℕ → Reading Define Insert Asked
+abbrev waits : List ℕ → ℕ → ℕ → Reading Define Change Asked
 waits name m k = Waits name m k
-
-insert_no_wait : (b : Bool) (i : Insert) (name : List ℕ) (m k at : ℕ) → waits name m k ≡ cond b (Changes i) (Unread kinds.NotYet at) → ⊥
-insert_no_wait true i name m k at e = cc
-insert_no_wait false i name m k at e = cc
 
 says_no_wait : (at : ℕ) (t : Statement) (name : List ℕ) (m k : ℕ) → waits name m k ≡ says at t → ⊥
 says_no_wait at (statements.Define d) name m k e = cc
-says_no_wait at (statements.Insert i) name m k e = insert_no_wait (is_plain i) i name m k at e
+says_no_wait at (statements.Insert i) name m k e = cc
 says_no_wait at (statements.Query q) name m k e = cc
 says_no_wait at (statements.Update u) name m k e = cc
 says_no_wait at (statements.Delete d) name m k e = cc

@@ -29,7 +29,7 @@ use Rattle.std.proofs.lemmas.List.{map-append}
 use Rattle.pg_keyed.specs.Lists.{each_map}
 use Rattle.pg_value.specs.Tables.{FitWrites, FitsWrite}
 use Rattle.pg_value.specs.TablesLaws.{FitLog}
-use Rattle.pgq.specs.Engine.{most_log_writes, AreSound, IsReady, Answers, AnswersTo}
+use Rattle.pgq.specs.Engine.{most_log_writes, IsReady, Answers, AnswersTo}
 use Rattle.pgq.proofs.Statements.Outcomes.{defined_is, define_fault_is}
 
 beyond_is : (tables : List (List Stored)) (t : ℕ) → get_or (tables ++ [] ∷ []) t [] ≡ get_or tables t []
@@ -73,12 +73,11 @@ module _ (d : Define) (e m e' : Engine) (taken : IsTaken d e m) (by : IsDefinedB
   pub catalog_is : e'.catalog ≡ with_definition e.catalog d
   catalog_is = by.catalog ∙ taken.catalog
 
-  pub ready_then : IsReady e → AreSound (with_definition e.catalog d) → IsReady e'
-  ready_then ready sound = record {
+  pub ready_then : IsReady e → IsReady e'
+  ready_then ready = record {
     each = λ t. ap (λ (l : List Commit). held_in (record { 0 = t }) (after l (length l))) log_is ∙ ready.each t ∙ sym (ap (λ ls. get_or ls t []) (by.tables ∙ ap (tables_then d) taken.tables) ∙ same_lists d e.tables.items t);
     as_many = ap length (by.tables ∙ ap (tables_then d) taken.tables) ∙ as_many_then d e.catalog e.tables.items ready.as_many ∙ sym (ap (λ (k : Entries). length k.0) catalog_is);
     shapes_are = by.shapes_are ∙ sym (ap shapes by.catalog);
-    sound = subst AreSound (sym catalog_is) sound;
     sound_shapes = by.sound;
     fit = subst (λ s. FitLog s e'.log) (sym (by.shapes_are ∙ ap shapes taken.catalog)) (subst (FitLog (shapes (with_definition e.catalog d))) (sym log_is) (fits_then d e.catalog e.log (subst (λ s. FitLog s e.log) ready.shapes_are ready.fit)));
     held_all = by.held_all ∙ taken.held_all ∙ ready.held_all ∙ sym (ap held log_is);
@@ -93,9 +92,9 @@ module _ (d : Define) (e m e' : Engine) (taken : IsTaken d e m) (by : IsDefinedB
       subst (λ k. Answers script n e item (Defined (name_of d) k) e') (ap length (sym taken.log))
       (defined_is script n e item d at e' r setup taken.right catalog_is log_is (by.base ∙ ap length taken.log) (by.peak ∙ taken.peak))
 
-pub ready_ok : (d : Define) (e m e' : Engine) (r : Result Outcome AllocError) → IsTaken d e m → IsReady e → AreSound (with_definition e.catalog d) → OnOk r (IsDefinedBy d m e') → OnOk r (IsReady e')
-ready_ok d e m e' (Ok o) taken ready sound by = ready_then d e m e' taken by ready sound
-ready_ok d e m e' (Err x) taken ready sound by = tt
+pub ready_ok : (d : Define) (e m e' : Engine) (r : Result Outcome AllocError) → IsTaken d e m → IsReady e → OnOk r (IsDefinedBy d m e') → OnOk r (IsReady e')
+ready_ok d e m e' (Ok o) taken ready by = ready_then d e m e' taken by ready
+ready_ok d e m e' (Err x) taken ready by = tt
 
 pub answers_ok : (d : Define) (e m e' : Engine) (at n : ℕ) (r : Result Outcome AllocError) → IsTaken d e m → n ≡ 0 → OnOk r (IsDefinedBy d m e') → IfOk r (λ o. o ≡ Defined (name_of d) (length m.log))
     → IfOk r (λ o. AnswersTo (Defines d at) n e o e')

@@ -19,7 +19,7 @@ use Rattle.pg_value.specs.Writes.{Limited, IsInOrder, named}
 use Rattle.pg_value.specs.Tables.{Tables, place_of, FitWrites}
 use Rattle.pg_value.specs.Log.{row_given, put, after, view, held, conflict}
 use Rattle.pg_ast.specs.declared.define.Define.{Define}
-use Rattle.pg_ast.specs.declared.statement.Insert.{Insert}
+use Rattle.pg_rules.specs.Changes.{Change}
 use Rattle.pg_meaning.specs.declared.checked.CheckedChange.{CheckedChange}
 use Rattle.pg_meaning.specs.declared.checked.CheckedQuery.{CheckedQuery}
 use Rattle.pg_rules.specs.Catalog.{Defined as Entries}
@@ -37,9 +37,9 @@ use Rattle.pg_script.specs.declared.outcome.Outcome.TheVariants.{Defined, Change
 use Rattle.pg_script.specs.Judged.{Reading, Unread, Defines, Changes, Asks, Faulty, Fine, Refusal, IsDuplicate, IsTooMany, IsAtColumn, Effect, Stopped, Done, refused, IsCommit, View, AtStart, Judged, unread, defines_in_session, define_fault as define_faulty, defined, change_fault, change_stopped, changed_none, changed_alone, query_fault, answered, logged, filled}
 use Rattle.pg_script.specs.declared.script.Script.{Script}
 use Rattle.pgq.specs.declared.engine.Engine.{Engine}
-use Rattle.pg_session.specs.declared.event.Event.{Event}
-use Rattle.pg_session.specs.declared.event.Event.TheVariants as events
-use Rattle.pg_session.specs.Core.{Core, base_after, after_redefine, IsTaken, CanCommit, CanCome, Steps}
+use Rattle.pg_core.specs.declared.event.Event.{Event}
+use Rattle.pg_core.specs.declared.event.Event.TheVariants as events
+use Rattle.pg_core.specs.Core.{Core, base_after, after_redefine, IsTaken, CanCommit, CanCome, Steps}
 use Rattle.pg_session.specs.Stepped.{base_of, now, events_of, marking, AfterItem}
 use Rattle.pg_language.specs.Language.{Asked, language, reads, reading_of, defines, resolves, checks, affects, name_of, most_transaction_writes}
 use Rattle.pgq.specs.Engine.{most_log_writes, core_of, counts_then, CanCount, resting, peak_after, Answers, AnswersTo}
@@ -167,7 +167,7 @@ module _ (script : Script) (n : ℕ) (e : Engine) (item : Item) where
     core = λ sections counts peak can. ap (λ b. core_of sections (cond b counts (slice_set counts n (get_or counts n 0 + 1))) e') (eq-eqb n 0 setup) ∙ defined_core sections counts e e' peak log base after;
   }
 
-  pub change_fault_is : (i : Insert) (kind : FaultKind) (at : ℕ) → reads script item (Changes i) → resolves e.catalog i (Faulty kind at) → Answers script n e item (AtByte kind at) e
+  pub change_fault_is : (i : Change) (kind : FaultKind) (at : ℕ) → reads script item (Changes i) → resolves e.catalog i (Faulty kind at) → Answers script n e item (AtByte kind at) e
   change_fault_is i kind at r faulty = told kind at (λ sections counts outs seen. change_fault i kind at r faulty refl refl)
 
   abbrev Effects : CheckedChange → Effect → Type 0
@@ -183,7 +183,7 @@ module _ (script : Script) (n : ℕ) (e : Engine) (item : Item) where
   starts_here : (sections : ℕ) (counts : List ℕ) (outs : ℕ → List Outcome) (seen : ℕ) (writes : Limited) → AtStart (now most_log_writes (core_of sections counts e) outs writes n) seen (resting e.catalog) NewView
   starts_here sections counts outs seen writes = record { closed = refl; starts = refl; unwritten = refl; sees = refl }
 
-  pub stopped_is : (i : Insert) (x : CheckedChange) (refusal : Refusal) → reads script item (Changes i) → resolves e.catalog i (Fine x) → Effects x (Stopped refusal)
+  pub stopped_is : (i : Change) (x : CheckedChange) (refusal : Refusal) → reads script item (Changes i) → resolves e.catalog i (Fine x) → Effects x (Stopped refusal)
       → Answers script n e item (refused refusal (length e.log)) e
   stopped_is i x refusal r fine a = record {
     writes = no_writes;
@@ -192,7 +192,7 @@ module _ (script : Script) (n : ℕ) (e : Engine) (item : Item) where
     core = λ sections counts peak can. refused_core n e sections counts peak can refusal (length e.log) no_writes;
   }
 
-  pub none_is : (i : Insert) (x : CheckedChange) (ws : List Write) → reads script item (Changes i) → resolves e.catalog i (Fine x) → Effects x (Done ws 0) → Answers script n e item (Changed 0 (length e.log)) e
+  pub none_is : (i : Change) (x : CheckedChange) (ws : List Write) → reads script item (Changes i) → resolves e.catalog i (Fine x) → Effects x (Done ws 0) → Answers script n e item (Changed 0 (length e.log)) e
   none_is i x ws r fine a = record {
     writes = no_writes;
     limited = refl;
@@ -200,7 +200,7 @@ module _ (script : Script) (n : ℕ) (e : Engine) (item : Item) where
     core = λ sections counts peak can. read_core n e sections counts peak can;
   }
 
-  module _ (i : Insert) (x : CheckedChange) (ws : List Write) (rows : ℕ) (r : reads script item (Changes i)) (fine : resolves e.catalog i (Fine x)) (a : Effects x (Done ws rows)) (some : 0 < rows) (written : ws ≡ [] → ⊥)
+  module _ (i : Change) (x : CheckedChange) (ws : List Write) (rows : ℕ) (r : reads script item (Changes i)) (fine : resolves e.catalog i (Fine x)) (a : Effects x (Done ws rows)) (some : 0 < rows) (written : ws ≡ [] → ⊥)
       (in_order : IsInOrder ws) (fit : FitWrites (shapes e.catalog) ws) where
     pub full_is : most_log_writes < held e.log + length ws → Answers script n e item (LogFull (length e.log) (held e.log)) e
     full_is full = let own : Limited = record { list = ws; limit = most_transaction_writes } in record {
@@ -250,7 +250,7 @@ module _ (script : Script) (n : ℕ) (e : Engine) (item : Item) where
   }
 
 -- what cannot be read as a statement that runs
-pub not_read : (n : ℕ) (e : Engine) (r : Reading Define Insert Asked) (kind : FaultKind) (at : ℕ) (o : Outcome) → r ≡ Unread kind at → o ≡ AtByte kind at → AnswersTo r n e o e
+pub not_read : (n : ℕ) (e : Engine) (r : Reading Define Change Asked) (kind : FaultKind) (at : ℕ) (o : Outcome) → r ≡ Unread kind at → o ≡ AtByte kind at → AnswersTo r n e o e
 not_read n e r kind at o says is script item read = subst (λ x. Answers script n e item x e) (sym is) (unread_is script n e item kind at (subst (reads script item) says read))
 
 -- a statement of a part of the text, by what that reads as
@@ -259,5 +259,5 @@ part_ok script n from to e e' p (Ok o) is h = h script (Sql from to) (p, is, ref
 part_ok script n from to e e' p (Err x) is h = tt
 
 -- a statement that is not run yet
-pub not_run : (n : ℕ) (e : Engine) (r : Reading Define Insert Asked) (at : ℕ) (o : Outcome) → r ≡ Unread NotYet at → o ≡ AtByte NotYet at → AnswersTo r n e o e
+pub not_run : (n : ℕ) (e : Engine) (r : Reading Define Change Asked) (at : ℕ) (o : Outcome) → r ≡ Unread NotYet at → o ≡ AtByte NotYet at → AnswersTo r n e o e
 not_run n e r at o = not_read n e r NotYet at o

@@ -1,5 +1,4 @@
 use Rattle.std.proofs.Common.{refl, ap, arith}
-use Rattle.pgq.proofs.Statements.SoundGraphs.{sound_then}
 use Rattle.pgq.proofs.Statements.Outcomes.{in_session_is}
 use Rattle.pgq.proofs.Statements.Definitions.{ready_ok, answers_ok, faulty_ok}
 use Rattle.pgq.proofs.definition.define.Goals as goal
@@ -9,8 +8,7 @@ returns-then-section-ne0-clause-answers c script item r = in_session_is script c
 
 pub returns-in-Ok-clause-ready : goal.returns-in-Ok-clause-ready
 returns-in-Ok-clause-ready c = ready_ok c.args.definition.now c.args.engine.now (record c.args.engine.now { catalog = c.define.new.self }) c.finish_definition.new.engine c.finish_definition.result
-    (record { right = c.in-Ok.ensures.ok; catalog = c.in-Ok.ensures.defined; tables = refl; log = refl; held_all = refl; peak = refl }) c.requires
-    (sound_then c.args.engine.now.catalog c.args.definition.now c.in-Ok.ensures.ok c.requires.sound) c.finish_definition.ensures.engine
+    (record { right = c.in-Ok.ensures.ok; catalog = c.in-Ok.ensures.defined; tables = refl; log = refl; held_all = refl; peak = refl }) c.requires c.finish_definition.ensures.engine
 
 pub returns-in-Ok-clause-answers : goal.returns-in-Ok-clause-answers
 returns-in-Ok-clause-answers c = answers_ok c.args.definition.now c.args.engine.now (record c.args.engine.now { catalog = c.define.new.self }) c.finish_definition.new.engine c.args.at c.args.section c.finish_definition.result

@@ -1,0 +1,4 @@
+pub mod Lengths
+pub mod Runs
+pub mod Good
+pub mod Seen

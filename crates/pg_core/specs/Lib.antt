@@ -1,0 +1,4 @@
+pub mod Core
+pub mod Powers
+pub mod Versions
+pub mod State

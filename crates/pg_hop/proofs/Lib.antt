@@ -1,3 +1,0 @@
-pub mod HopLaws
-pub mod Parted
-pub mod ReadLaws

@@ -1,0 +1,14 @@
+//! The answer of a checked query over a view.
+#![tactic(auto)]
+
+mod answering;
+mod elements;
+mod joining;
+mod lists;
+mod rows;
+mod searching;
+mod selecting;
+mod slots;
+mod starts;
+
+pub use answering::answer_in_turn;

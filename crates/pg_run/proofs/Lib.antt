@@ -1,0 +1,4 @@
+pub mod Growing
+pub mod CutLaws
+pub mod EndsLaws
+pub mod Halves

@@ -1,0 +1,7 @@
+pub mod Growth
+pub mod Halves
+pub mod Heads
+pub mod Items
+pub mod Places
+pub mod Totals
+pub mod Walks

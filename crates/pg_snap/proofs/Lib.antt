@@ -1,0 +1,10 @@
+pub mod Growing
+pub mod HopLaws
+pub mod BaseLaws
+pub mod RowLaws
+pub mod GivenLaws
+pub mod SideLaws
+pub mod ScanLaws
+pub mod VersionLaws
+pub mod ElementLaws
+pub mod StepLaws

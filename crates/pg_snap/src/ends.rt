@@ -1,0 +1,120 @@
+//! The edges of a base by the vertices at their ends.
+ghost use Rattle.std.specs.Prelude.{◌≡◌, [], ◌++◌, map, IfOk, OnOk};
+ghost use Rattle.std.specs.List.{cons_option};
+ghost use Rattle.std.specs.Option.{option_copied, unwrap_or};
+ghost use Rattle.pg_view.specs.Lists.{rows_in};
+ghost use Rattle.pg_view.specs.RowEnds as spec;
+ghost use Rattle.pg_snap.specs.Bases.{AreListEnds};
+
+use pg_adj::{Adj, EdgeEnds};
+use pg_chunks::Chunks;
+use pg_run::row_ends;
+use pg_value::{EdgeShape, List, Stored, TableNo};
+use std::alloc::{AllocError, Global};
+
+/// The rows of a table; None for one beyond the lists, which has none.
+pub fn rows_of(lists: &[Chunks<Stored>], table: TableNo) -> Option<&Chunks<Stored>>
+    ensures { unwrap_or (option_copied result) [] ≡ rows_in lists.now table }
+{
+    match lists.get(table.0 as usize) {
+        Some(rows) => Some(rows),
+        None => None,
+    }
+}
+
+/// What a row of an edge table names as its ends; None where it names no two.
+fn stored_ends(
+    alloc: Global,
+    shape: &EdgeShape,
+    stored: &Stored,
+) -> Result<Option<EdgeEnds>, AllocError>
+    ensures { IfOk result (λ ends. ends ≡ spec.ends_in shape.now stored.now) }
+{
+    row_ends(alloc, shape, &stored.key, &stored.row)
+}
+
+/// Appends the ends of a row, where it names them.
+fn push_some(all: &mut List<EdgeEnds>, ends: Option<EdgeEnds>) -> Result<(), AllocError>
+    ensures { OnOk result (all.new ≡ all.old ++ cons_option ends []) }
+{
+    if let Some(ends) = ends {
+        all.push(ends)?;
+    }
+    Ok(())
+}
+
+/// Appends the ends that some rows of an edge table name, in order. After want of memory some of them are appended.
+fn push_ends(
+    alloc: Global,
+    shape: &EdgeShape,
+    rows: &[Stored],
+    all: &mut List<EdgeEnds>,
+) -> Result<(), AllocError>
+    ensures { OnOk result (all.new ≡ all.old ++ spec.all_ends shape.now rows.now) }
+{
+    for stored in rows {
+        let ends = stored_ends(alloc, shape, stored)?;
+        push_some(all, ends)?;
+    }
+    Ok(())
+}
+
+/// The rows of an edge table that name both ends, in order. They are read chunk by chunk.
+fn ends_among(
+    alloc: Global,
+    shape: &EdgeShape,
+    rows: &Chunks<Stored>,
+) -> Result<List<EdgeEnds>, AllocError>
+    ensures { IfOk result (λ all. all ≡ spec.all_ends shape.now rows.now) }
+{
+    let mut all = List::new(alloc);
+    let mut at = 0;
+    'runs: while at < rows.len() {
+        let run = rows.run(at);
+        match push_ends(alloc, shape, run, &mut all) {
+            Ok(()) => at += run.len(),
+            Err(failed) => return Err(failed),
+        }
+    }
+    Ok(all)
+}
+
+/// The same, of the rows in the list of the edge table.
+fn table_ends(
+    alloc: Global,
+    shape: &EdgeShape,
+    lists: &[Chunks<Stored>],
+) -> Result<List<EdgeEnds>, AllocError>
+    ensures { IfOk result (λ all. all ≡ spec.all_ends shape.now (rows_in lists.now shape.now.table)) }
+{
+    match rows_of(lists, shape.table) {
+        Some(rows) => ends_among(alloc, shape, rows),
+        None => Ok(List::new(alloc)),
+    }
+}
+
+/// The same of all edge tables.
+fn all_ends(
+    alloc: Global,
+    shapes: &[EdgeShape],
+    lists: &[Chunks<Stored>],
+) -> Result<List<List<EdgeEnds>>, AllocError>
+    ensures { IfOk result (λ all. all ≡ map (λ shape. spec.all_ends shape (rows_in lists.now shape.table)) shapes.now) }
+{
+    let mut all = List::with_room(alloc, shapes.len())?;
+    for shape in shapes {
+        all.push(table_ends(alloc, shape, lists)?)?;
+    }
+    Ok(all)
+}
+
+/// The rows of edge tables by the vertices that they name, where there is one list of rows for each table.
+pub fn ends_of(
+    alloc: Global,
+    shapes: &[EdgeShape],
+    lists: &[Chunks<Stored>],
+) -> Result<Adj, AllocError>
+    ensures { IfOk result (AreListEnds shapes.now lists.now) }
+{
+    Adj::build(alloc, all_ends(alloc, shapes, lists)?)
+}

@@ -1,0 +1,17 @@
+//! Snapshots: a base under the runs of the versions behind it and under a transaction's own writes, read as one.
+#![tactic(auto)]
+
+mod base;
+mod changes;
+mod ends;
+mod laws;
+mod newest;
+mod reached;
+mod scan;
+mod snapshot;
+mod view;
+
+pub use base::Base;
+pub use laws::snapshots_are_versions;
+pub use scan::{Held, Scan};
+pub use snapshot::{SnapBuf, Snapshot};

@@ -1,8 +1,0 @@
-use Rattle.std.proofs.Common.{◌≡◌, drop}
-use Rattle.std.specs.List.{flat_map}
-use Rattle.pg_rules.specs.Places.{least, sooner}
-use Rattle.pg_write.specs.LiteralFaults.{miscounted}
-use Rattle.pg_write.proofs.resolve.count.Given as goal
-
-abbrev pub invariant-loop-tuple : goal.invariant-loop-tuple
-invariant-loop-tuple l = sooner l.found (least (flat_map (miscounted l.columns) (drop l.tuple-index l.tuples))) ≡ least (flat_map (miscounted l.columns) l.tuples)

@@ -1,8 +1,0 @@
-use Rattle.std.proofs.Common.{◌≡◌, drop}
-use Rattle.std.specs.List.{flat_map}
-use Rattle.pg_rules.specs.Places.{least, sooner}
-use Rattle.pg_write.specs.LiteralFaults.{wide_in}
-use Rattle.pg_write.proofs.resolve.wide.Given as goal
-
-abbrev pub invariant-loop-tuple : goal.invariant-loop-tuple
-invariant-loop-tuple l = sooner l.found (least (flat_map (λ t. wide_in t.values) (drop l.tuple-index l.tuples))) ≡ least (flat_map (λ t. wide_in t.values) l.tuples)

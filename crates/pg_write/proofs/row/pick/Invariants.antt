@@ -1,6 +1,0 @@
-use Rattle.std.proofs.Common.{◌≡◌, take}
-use Rattle.pg_value.specs.Tables.{pick}
-use Rattle.pg_write.proofs.row.pick.Given as goal
-
-abbrev pub invariant-loop-column : goal.invariant-loop-column
-invariant-loop-column l = l.out ≡ pick (take l.column-index l.columns) l.values
