@@ -1,5 +1,5 @@
 //! Tests of what no run of the program shows, over the crates below it: values that no statement gives yet, the lines of
-//! outcomes that none has, scripts of several sessions, and sources and sinks that fail in mid-stream.
+//! outcomes that none has, scripts of several sessions, tasks, and sources and sinks that fail in mid-stream.
 #![tactic(auto)]
 
 #[cfg(test)]
@@ -14,6 +14,8 @@ mod outside;
 mod scripts;
 #[cfg(test)]
 mod store;
+#[cfg(test)]
+mod tasks;
 #[cfg(test)]
 mod transcripts;
 #[cfg(test)]

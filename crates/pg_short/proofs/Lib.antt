@@ -1,0 +1,15 @@
+pub mod Lists
+pub mod Named
+pub mod Follows
+pub mod Reached
+pub mod Layers
+pub mod Selected
+pub mod FoundRounds
+pub mod FoundSteps
+pub mod Moving
+pub mod SameSpots
+pub mod Grown
+pub mod Searching
+pub mod Queued
+pub mod Going
+pub mod Begun

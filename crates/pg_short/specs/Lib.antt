@@ -1,0 +1,8 @@
+-- What the shortest searches give.
+pub mod Selections
+pub mod Spots
+pub mod Rounds
+pub mod Steps
+pub mod Visits
+pub mod Searches
+pub mod Found
