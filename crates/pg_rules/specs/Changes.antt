@@ -3,7 +3,6 @@
 pub mod ChangeEffect
 pub mod InsertEffect
 pub mod InsertJudgement
-pub mod PlainInsert
 use Rattle.std.specs.Prelude.{ℕ, ◌≡◌, ◌==◌, Bool, not, List, [], ◌∷◌, ◌++◌, map, flat_map, Option, Some, None, option_map, option_to_list, find}
 use Rattle.std.specs.List.{list_any}
 use Rattle.std.specs.Str.{bytes_eq}
