@@ -78,7 +78,9 @@ def dependencies():
     ask(script, graph, back).delete(needs, lambda r: r["OPTIONAL"] and r["PACKAGE"] != "json", "WHERE optional AND NOT package = 'json'")
     ask(script, graph, back)
     way = Pattern(node("p", where=app), group(Filler("a"), ("->", Filler("n"), Filler("b")), quant=(1, 3)), node("q"), mode="ACYCLIC")
-    return ask(script, graph, Query([way], [("q.name", None), (("+", "p.size", ("SUM", "b.size")), "SIZE")], where=("<", "q.size", 100)))
+    ask(script, graph, Query([way], [("q.name", None), (("+", "p.size", ("SUM", "b.size")), "SIZE")], where=("<", "q.size", 100)))
+    reached = Pattern(node("p", where=app), edge("->", "n", quant=(1, None)), node("q"), selector="ANY SHORTEST")
+    return ask(script, graph, Query([reached], [steps, ("q.name", None)]))
 
 
 def recommendations():

@@ -169,6 +169,13 @@ abbrev pub Steps : Shapes → ℕ → Core → List Event → Core → Type 0
 Steps shapes limit old [] new = new ≡ old
 Steps shapes limit old (e ∷ es) new = (reply : Reply) × (m : Core) × CanCome shapes old e × Step shapes limit old e reply m × Steps shapes limit m es new
 
+-- events one after another, each of which is taken or refused, with their replies
+abbrev pub Replays : Shapes → ℕ → Core → List Event → List Reply → Core → Type 0
+Replays shapes limit old [] [] new = new ≡ old
+Replays shapes limit old [] (r ∷ rs) new = ⊥
+Replays shapes limit old (e ∷ es) [] new = ⊥
+Replays shapes limit old (e ∷ es) (r ∷ rs) new = (m : Core) × Step shapes limit old e r m × Replays shapes limit m es rs new
+
 -- The core before the first event: so many seats, places for so many sections, the setup's (of which nothing is counted) and each session's, and nothing else.
 abbrev pub first_core : ℕ → ℕ → Core
 first_core seats sections = record {

@@ -8,14 +8,16 @@ use Rattle.pg_value.specs.declared.write.Commit.{Commit}
 use Rattle.pg_core.specs.declared.parts.Begin.{Begin}
 use Rattle.pg_core.specs.declared.parts.Begin.TheVariants as begins
 use Rattle.pg_core.specs.declared.parts.Stale.{Stale}
+use Rattle.pg_core.specs.declared.event.Event.{Event}
 use Rattle.pg_core.specs.declared.event.Reply.{Reply}
 use Rattle.pg_core.specs.declared.event.Reply.TheVariants as replies
+use Rattle.pg_core.specs.declared.events.Opened.{Opened}
 use Rattle.pg_core.specs.declared.fault.CommitFault.{CommitFault}
 use Rattle.pg_core.specs.declared.fault.CommitFault.TheVariants as faults
 use Rattle.pg_core.specs.declared.fault.Marked.{Marked}
 use Rattle.pg_core.specs.declared.fault.Marked.TheVariants as marks
-use Rattle.pg_core.specs.Versions.{BaseOf, RunOf, Versioned, StandsFor}
-use Rattle.pg_core.specs.Core.{Core, Build, CommitAnswers, after_fold, after_install, after_abandon}
+use Rattle.pg_core.specs.Versions.{BaseOf, RunOf, Versioned, StandsFor, IsBaseOf}
+use Rattle.pg_core.specs.Core.{Core, Build, CommitAnswers, Step, after_fold, after_install, after_abandon}
 
 -- the core, the shapes of its tables, and how many writes its log may hold
 pub record Standing : Type 0 where
@@ -39,6 +41,11 @@ standing_of v counts ended stopped peak = record {
   shapes = v.shapes;
   limit = v.limit;
 }
+
+-- a truth value that tells whether P holds
+abbrev pub Tells : Bool → Type 0 → Type 0
+Tells true P = P
+Tells false P = P → ⊥
 
 -- the core becomes this one, and its shapes and limit stay
 abbrev pub becomes : Standing → Core → Standing
@@ -72,6 +79,10 @@ abbrev pub refusal : CommitFault → Option Reply
 refusal (faults.Conflict table key at) = Some (replies.Conflict table key at)
 refusal (faults.LogFull held) = Some (replies.LogFull held)
 refusal faults.Memory = None
+
+abbrev pub committed : Result ℕ CommitFault → Option Reply
+committed (Ok at) = Some (replies.Committed at)
+committed (Err fault) = refusal fault
 
 -- a commit is answered by the core's definition; after want of memory all is as before
 abbrev pub Refuses : Standing → Standing → Commit → Option Reply → Type 0
@@ -108,3 +119,17 @@ Begins base run old new seat (begins.Job job) =
 abbrev pub Installs : Standing → Standing → Build → Result Unit Stale → Type 0
 Installs old new b (Ok u) = (old.core.base ≡ b.base) × (new ≡ becomes old (after_install old.core b))
 Installs old new b (Err stale) = (old.core.base ≡ b.base → ⊥) × (stale.base ≡ old.core.base) × (new ≡ becomes old (after_abandon old.core b))
+
+-- what the core replies where a build is installed
+abbrev pub installed : Result Unit Stale → Reply
+installed (Ok u) = replies.Installed
+installed (Err stale) = replies.Stale stale.base
+
+-- an event changes the core by one step, and shapes and limit stay
+abbrev pub Takes : Standing → Event → Reply → Standing → Type 0
+Takes old event reply new = Step old.shapes old.limit old.core event reply new.core × (new ≡ becomes old new.core)
+
+-- what is held of an open build is that build, with a base of its version; nothing is held where no build is open
+abbrev pub HasOpen : {B R : Type 0} → (B → BaseOf) → Standing → Option (Opened B R) → Type 0
+HasOpen base s None = s.core.build ≡ None
+HasOpen base s (Some o) = (s.core.build ≡ Some o.job.build) × IsBaseOf s.shapes s.core.log o.job.build.at (base o.base)

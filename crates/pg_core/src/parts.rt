@@ -1,6 +1,10 @@
 //! What a snapshot is made of, and what pins and builds hand out.
-use crate::Build;
+ghost use Rattle.std.specs.Prelude.{◌≡◌, map, IfOk};
+ghost use Rattle.pg_core.specs.Versions.{CanFold, put_runs};
+
+use crate::{Base, Build, Run};
 use pg_value::{List, Shapes, Shared};
+use std::alloc::{AllocError, Global};
 
 /// What a snapshot is made of: the shapes of the tables, a base, and the runs over it, newest first, of the versions up to `at`.
 /// All are shared with the core, which changes none of them.
@@ -26,6 +30,26 @@ pub struct Pinned<B, R> {
 pub struct Job<B, R> {
     pub build: Build,
     pub parts: Parts<B, R>,
+}
+
+impl<B: Base<R>, R: Run> Job<B, R> {
+    /// The base that is to be built. Only want of memory refuses it, and the parts stay.
+    pub fn built(&self, alloc: Global) -> Result<Shared<B>, AllocError>
+        requires parts { CanFold self.now.parts.at (B.base self.now.parts.base) (map R.run self.now.parts.runs) }
+        requires same { (B.base self.now.parts.base).shapes ≡ self.now.parts.shapes }
+        ensures { IfOk result (λ b. B.base b ≡ record { shapes = self.now.parts.shapes; version = self.now.parts.at; tables = put_runs (B.base self.now.parts.base).tables (map R.run self.now.parts.runs) }) }
+    {
+        let Parts {
+            shapes,
+            base,
+            runs,
+            at,
+        } = &self.parts;
+        Shared::new(
+            alloc,
+            B::fold(alloc, base.get(), runs.as_slice(), *at, shapes)?,
+        )
+    }
 }
 
 /// What is answered where a build is to begin.

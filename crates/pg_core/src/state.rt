@@ -1,12 +1,13 @@
 //! The core as one value: each call is one event of it.
-ghost use Rattle.std.specs.Prelude.{◌≡◌, ◌<◌, ◌+◌, ◌^◌, length, get_or, replicate, slice_set, true, false, is_some, IfOk, OnOk, OnErr, Some, None};
+ghost use Rattle.std.specs.Prelude.{◌≡◌, ◌<◌, ◌+◌, ◌^◌, length, get_or, replicate, slice_set, true, false, is_some, not, IfOk, OnOk, OnErr, Some, None};
 ghost use Rattle.pg_core.specs.declared.event.Event.TheVariants as events;
 ghost use Rattle.pg_core.specs.Core.{CanCome, CanCommit, IsNotBuilding, after_abandon, after_mark, after_pin, after_redefine, after_release, first_core, pin_of, seen_peak};
 ghost use Rattle.pg_core.specs.Versions.{Extends, IsBaseOf, StandsFor};
-ghost use Rattle.pg_core.specs.State.{Begins, Commits, Installs, IsConflict, IsMarked, becomes};
+ghost use Rattle.pg_core.specs.State.{Begins, Commits, Installs, IsConflict, IsMarked, Tells, becomes};
 
+use crate::fits::fit_writes;
 use crate::versions::Versions;
-use crate::{Base, Begin, Build, CommitFault, Job, Marked, Pinned, Run, Stale};
+use crate::{Base, Begin, Build, CommitFault, Event, Job, Marked, Pinned, Run, Stale};
 use pg_log::Log;
 use pg_value::{Commit, Shapes, Shared, Write, Writes, copy_key};
 use std::alloc::{AllocError, Global};
@@ -67,6 +68,75 @@ impl<B: Base<R>, R: Run> State<B, R> {
             stopped: false,
             peak: (1, 0),
         })
+    }
+
+    /// Whether there is such a seat, and it has no pin.
+    fn is_free(&self, seat: u32) -> bool
+        ensures { Tells result ((seat < length self.now.core.pins) × (pin_of self.now.core seat ≡ None)) }
+    {
+        (seat as usize) < self.versions.seats() && !self.versions.has_pin(seat)
+    }
+
+    /// Whether a build is open that this seat opened.
+    fn builds(&self, seat: u32) -> bool
+        ensures { Tells (not result) (IsNotBuilding self.now.core seat) }
+    {
+        match self.versions.building() {
+            Some(build) => build.seat == seat,
+            None => false,
+        }
+    }
+
+    /// Whether there is such a seat, and it has not opened a build that is open.
+    fn may_release(&self, seat: u32) -> bool
+        ensures { Tells result ((seat < length self.now.core.pins) × IsNotBuilding self.now.core seat) }
+    {
+        (seat as usize) < self.versions.seats() && !self.builds(seat)
+    }
+
+    /// Whether a commit may come: of a seat and over a version that there are, of writes that fit the shapes, and not of none.
+    fn may_commit(&self, seat: u32, from: u64, writes: &Writes) -> bool
+        ensures { Tells result (CanCommit self.now.shapes self.now.core seat from writes.now.list) }
+    {
+        (seat as usize) < self.versions.seats()
+            && from <= self.versions.log().len()
+            && writes.len() > 0
+            && fit_writes(self.versions.shapes(), writes)
+    }
+
+    /// Whether a session has ended.
+    fn has_ended(&self, session: u32) -> bool
+        ensures { result ≡ get_or self.now.core.ended session false }
+    {
+        match self.ended.get(session as usize) {
+            Some(ended) => *ended,
+            None => false,
+        }
+    }
+
+    /// Whether there is such a session, it has not ended, and its items can still be counted.
+    fn may_mark(&self, session: u32) -> bool
+        ensures { Tells result (CanCome self.now.shapes self.now.core (events.Mark session)) }
+    {
+        match self.counts.get(session as usize) {
+            Some(count) => *count < u32::MAX && !self.has_ended(session),
+            None => false,
+        }
+    }
+
+    /// Whether an event may come.
+    pub fn can_come(&self, event: &Event) -> bool
+        ensures { Tells result (CanCome self.now.shapes self.now.core event.now) }
+    {
+        match event {
+            Event::Pin { seat } | Event::BeginFold { seat } => self.is_free(*seat),
+            Event::Release { seat } => self.may_release(*seat),
+            Event::Commit { seat, from, writes } => self.may_commit(*seat, *from, writes),
+            Event::Install | Event::Abandon => self.versions.building().is_some(),
+            Event::Mark { session } => self.may_mark(*session),
+            Event::EndSession { session } => (*session as usize) < self.ended.len(),
+            Event::Stop => true,
+        }
     }
 
     /// Raises the peak where more bases are kept than ever before.

@@ -113,6 +113,20 @@ impl<B: Base<R>, R: Run> Versions<B, R> {
         self.kept.current().0
     }
 
+    /// The shapes of the tables.
+    pub fn shapes(&self) -> &Shapes
+        ensures { result.now ≡ self.now.shapes }
+    {
+        self.shapes.get()
+    }
+
+    /// How many seats there are.
+    pub fn seats(&self) -> usize
+        ensures { result ≡ length self.now.held.pins }
+    {
+        self.kept.seats()
+    }
+
     /// Whether a seat has a pin.
     pub fn has_pin(&self, seat: u32) -> bool
         ensures { result ≡ is_some (pin_of self.now.held seat) }

@@ -1,6 +1,6 @@
 -- What is kept of the bindings from one start is what the selector keeps, and what is kept from all starts is together what is kept.
-use Rattle.std.proofs.Common.{◌≡◌, ◌-◌, suc, List, [], ◌∷◌, ◌++◌, map, length, Contains, ◌↔◌, inl, inr, refl, ap, sym, ◌∙◌, subst, arith}
-use Rattle.std.specs.Prelude.{Some, slice_get, flat_map}
+use Rattle.std.proofs.Common.{◌≡◌, ◌-◌, suc, Bool, true, false, List, [], ◌∷◌, ◌++◌, map, length, Contains, ◌↔◌, inl, inr, refl, ap, sym, ◌∙◌, subst, arith}
+use Rattle.std.specs.Prelude.{◌&&◌, Some, slice_get, flat_map}
 use Rattle.std.specs.List.{AllZip}
 use Rattle.pg_value.specs.declared.shape.ElemId.{ElemId}
 use Rattle.pg_value.specs.declared.shape.Shapes.{Shapes}
@@ -13,6 +13,10 @@ use Rattle.pg_meaning.specs.Walks.{Graph, Hop, graph_of, last_vertex}
 use Rattle.pg_meaning.specs.Bindings.{Binding, Distinct, IsAllowed, IsSelected, IsComplete, OnePerPair, SamePair, IsShortest, Selected, SelectedFrom, path_binding}
 use Rattle.pg_meaning.specs.Members.{in_nil, in_here, in_there, in_cons, in_left, in_right, in_append, in_map, from_map, distinct_append, distinct_under, distinct_map, same_item}
 use Rattle.pg_keyed.specs.Lists.{Each}
+use Rattle.pg_meaning.specs.Outlines.{is_walk, is_every, walks_on}
+use Rattle.pg_meaning.specs.Sound.Patterns.{IsSoundPath, outlines}
+use Rattle.pg_short.specs.Selections.{AreSelected, IsAllowedFrom}
+use Rattle.pg_join.specs.Answered.{keeps_all, IsAnswered}
 use Rattle.pg_join.specs.Selecting.{end_of, HasEnd, IsLeastIn, AreLeast, AreFirsts, AreKept, AreKeptFrom, AreStarts, IsKept}
 use Rattle.pg_join.proofs.Preimages.{preimage, image_of}
 
@@ -46,6 +50,38 @@ least_have_ends all (b ∷ kept) h e = (one all (h b (in_here b kept b refl)) e,
     one : (xs : List PathBinding) → Contains xs b → Each HasEnd xs → HasEnd b
     one [] c f = absurd (in_nil b c)
     one (x ∷ xs) c f = elim (in_cons x xs b c) [ inl s ↦ subst HasEnd s f.0 | inr r ↦ one xs r f.1 ]
+
+-- WALKS OF EVERY LENGTH
+
+-- where neither every binding nor each of the shortest is kept, and more than one of any length, it is one of the shortest
+pub only_any_shortest : (s : Selector) → (s ≡ Any → ⊥) → is_every s ≡ false → keeps_all s ≡ false → s ≡ AnyShortest
+only_any_shortest Every any every all = absurd (cc)
+only_any_shortest Any any every all = absurd (any refl)
+only_any_shortest AnyShortest any every all = refl
+only_any_shortest AllShortest any every all = absurd (cc)
+
+left_true : (a b : Bool) → (a && b) ≡ true → a ≡ true
+left_true true b h = refl
+left_true false b h = absurd (cc)
+
+right_false : (a b : Bool) → a ≡ true → (a && b) ≡ false → b ≡ false
+right_false true b e h = h
+right_false false b e h = absurd (cc)
+
+left_false : (a b : Bool) → b ≡ true → (a && b) ≡ false → a ≡ false
+left_false true true e h = absurd (cc)
+left_false true false e h = absurd (cc)
+left_false false b e h = refl
+
+pub endless_walk : (p : CheckedPath) → walks_on p.mode (outlines p) ≡ true → is_walk p.mode ≡ true
+endless_walk p h = left_true (is_walk p.mode) _ h
+
+pub kept_one : (shapes : Shapes) (p : CheckedPath) → IsSoundPath shapes p → walks_on p.mode (outlines p) ≡ true → IsAnswered p → (p.selector ≡ Any → ⊥) → p.selector ≡ AnyShortest
+kept_one shapes p sound endless answered any = only_any_shortest p.selector any (left_false (is_every p.selector) (walks_on p.mode (outlines p)) endless sound.bounded) (right_false (walks_on p.mode (outlines p)) (keeps_all p.selector) endless answered)
+
+-- what a shortest search keeps is what is kept from its start
+pub kept_selected : (s : Selector) (shapes : Shapes) (tables : Tables) (p : CheckedPath) (start : ElemId) → p.selector ≡ s → (kept : List PathBinding) → AreSelected s shapes tables p start kept → AreKeptFrom shapes tables p start kept
+kept_selected s shapes tables p start is kept k = record { bindings = k.kept; given = k.given; selected = subst (λ t. IsSelected t (IsAllowedFrom shapes tables p start) k.kept) (sym is) k.selected }
 
 -- FROM ONE START
 

@@ -3,6 +3,7 @@
 
 mod answering;
 mod elements;
+mod endless;
 mod joining;
 mod lists;
 mod rows;
@@ -12,3 +13,4 @@ mod slots;
 mod starts;
 
 pub use answering::answer_in_turn;
+pub use endless::walks_on;

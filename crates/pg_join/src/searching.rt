@@ -1,20 +1,62 @@
 //! What is kept of a path pattern: from each start, what its selector keeps of the bindings that are allowed.
-ghost use Rattle.std.specs.Prelude.{◌≡◌, ◌++◌, flat_map, IfOk, OnOk};
+ghost use Rattle.std.specs.Prelude.{◌≡◌, ◌++◌, true, false, flat_map, IfOk, OnOk};
 ghost use Rattle.std.specs.List.{AllZip};
-ghost use Rattle.pg_meaning.specs.Sound.Patterns.{IsSoundPath};
+ghost use Rattle.pg_meaning.specs.Outlines.{walks_on as endless};
+ghost use Rattle.pg_meaning.specs.Sound.Patterns.{IsSoundPath, outlines};
 ghost use Rattle.pg_auto.specs.Autos.{pattern};
 ghost use Rattle.pg_auto.specs.Stages.{pattern_of};
 ghost use Rattle.pg_join.specs.Answered.{IsAnswered};
 ghost use Rattle.pg_join.specs.Selecting.{AreKeptFrom, IsKept};
 
+use crate::endless::walks_on;
 use crate::selecting::selected;
 use crate::starts::starts_of;
+use pg_ast::Selector;
 use pg_auto::{Auto, compile};
 use pg_meaning::{CheckedPath, PathBinding, binding_by_path};
 use pg_search::paths;
+use pg_short::{any_from, any_shortest_from};
 use pg_value::{ElemId, List};
 use pg_view::View;
 use std::alloc::{AllocError, Global};
+
+/// What ANY or ANY SHORTEST keeps of walks of every length from a start.
+fn kept_of_walks<V: View>(
+    alloc: Global,
+    view: &V,
+    path: &CheckedPath,
+    auto: &Auto<'_>,
+    start: &ElemId,
+) -> Result<List<PathBinding>, AllocError>
+    requires automaton { pattern auto.now ≡ pattern_of path.now }
+    requires sound { IsSoundPath (V.shapes view.now) path.now }
+    requires endless { endless path.now.mode (outlines path.now) ≡ true }
+    requires answered { IsAnswered path.now }
+    ensures { IfOk result (AreKeptFrom (V.shapes view.now) (V.tables view.now) path.now start.now) }
+{
+    match path.selector {
+        Selector::Any => any_from(view, alloc, path, auto, start),
+        _ => any_shortest_from(view, alloc, path, auto, start),
+    }
+}
+
+/// What a path pattern's selector keeps of the bindings that are allowed from a start, where its walks end by themselves.
+fn kept_of_paths<V: View>(
+    alloc: Global,
+    view: &V,
+    path: &CheckedPath,
+    auto: &Auto<'_>,
+    start: &ElemId,
+) -> Result<List<PathBinding>, AllocError>
+    requires automaton { pattern auto.now ≡ pattern_of path.now }
+    requires sound { IsSoundPath (V.shapes view.now) path.now }
+    requires ends { endless path.now.mode (outlines path.now) ≡ false }
+    ensures { IfOk result (AreKeptFrom (V.shapes view.now) (V.tables view.now) path.now start.now) }
+{
+    binding_by_path();
+    let found = paths(view, alloc, path, auto, start)?;
+    selected(alloc, path.selector, found)
+}
 
 /// What a path pattern's selector keeps of the bindings that are allowed from a start.
 fn kept_from<V: View>(
@@ -29,9 +71,11 @@ fn kept_from<V: View>(
     requires answered { IsAnswered path.now }
     ensures { IfOk result (AreKeptFrom (V.shapes view.now) (V.tables view.now) path.now start.now) }
 {
-    binding_by_path();
-    let found = paths(view, alloc, path, auto, start)?;
-    selected(alloc, path.selector, found)
+    if walks_on(path) {
+        kept_of_walks(alloc, view, path, auto, start)
+    } else {
+        kept_of_paths(alloc, view, path, auto, start)
+    }
 }
 
 /// The same from each of some starts.

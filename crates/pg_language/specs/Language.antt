@@ -1,5 +1,5 @@
 -- What the statements that run mean: how they are read, and what the catalog, a change and a query make of them.
-use Rattle.std.specs.Prelude.{ℕ, ◌≡◌, ◌⊎◌, Bool, true, false, not, List, [], map, slice_get, get_or}
+use Rattle.std.specs.Prelude.{ℕ, ◌≡◌, ◌⊎◌, ◌&&◌, Bool, true, false, not, List, [], map, slice_get, get_or}
 use Rattle.std.specs.declared.option.Option.{Option}
 use Rattle.std.specs.declared.option.Option.TheVariants.{Some, None}
 use Rattle.std.specs.Option.{unwrap_or}
@@ -15,6 +15,8 @@ use Rattle.pg_ast.specs.declared.define.Define.TheVariants as definitions
 use Rattle.pg_ast.specs.declared.statement.Statement.{Statement}
 use Rattle.pg_ast.specs.declared.statement.Statement.TheVariants as statements
 use Rattle.pg_ast.specs.declared.pattern.Query.{Query}
+use Rattle.pg_ast.specs.declared.pattern.Selector.{Selector}
+use Rattle.pg_ast.specs.declared.pattern.Selector.TheVariants as selectors
 use Rattle.pg_meaning.specs.declared.checked.CheckedChange.{CheckedChange}
 use Rattle.pg_meaning.specs.declared.checked.CheckedPath.{CheckedPath}
 use Rattle.pg_meaning.specs.declared.checked.CheckedQuery.{CheckedQuery}
@@ -156,9 +158,16 @@ query_refusal (query.Wide p) = Some (kinds.Wide, p)
 query_refusal (query.Limit p) = Some (kinds.Limit, p)
 query_refusal query.Memory = None
 
--- WHICH QUERIES RUN: those of whose path patterns each has walks that end by themselves. It is bounded, or its mode is another than WALK.
+-- WHICH QUERIES RUN: all but those of which a path pattern asks ALL SHORTEST of walks that do not end by themselves. They end where it is bounded,
+-- or its mode is another than WALK.
+abbrev pub keeps_all : Selector → Bool
+keeps_all selectors.Every = false
+keeps_all selectors.Any = false
+keeps_all selectors.AnyShortest = false
+keeps_all selectors.AllShortest = true
+
 abbrev pub path_runs : CheckedPath → Bool
-path_runs p = not (walks_on p.mode (outlines p))
+path_runs p = not (walks_on p.mode (outlines p) && keeps_all p.selector)
 
 abbrev pub runs : CheckedQuery → Bool
 runs y = list_all path_runs y.paths

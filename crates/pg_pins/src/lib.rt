@@ -96,6 +96,13 @@ impl<B: Drop> Kept<B> {
         self.current
     }
 
+    /// How many seats there are.
+    pub fn seats(&self) -> usize
+        ensures { result ≡ length self.now.pins }
+    {
+        self.pins.len()
+    }
+
     /// The number of the base that a seat has pinned; None exactly where it has none.
     pub fn holds(&self, seat: u32) -> Option<u64>
         ensures { result ≡ pin_of self.now seat }

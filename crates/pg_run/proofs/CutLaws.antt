@@ -98,6 +98,10 @@ cut_of t (ws ∷ lists) h = (
 pub list_ascends : (n : ℕ) (lists : List (List Write)) → AreCut 0 lists → Ascends key_named key_cmp (get_or lists n [])
 list_ascends n lists a = (of_cut 0 n lists a).ascend
 
+pub lists_ascend : (t : ℕ) (lists : List (List Write)) → AreCut t lists → Each (λ ws. Ascends key_named key_cmp ws) lists
+lists_ascend t [] a = tt
+lists_ascend t (ws ∷ lists) a = (a.0.ascend, lists_ascend (t + 1) lists a.1)
+
 -- ALL LISTS
 
 before : (s t : ℕ) (j k : List Value) → s < t → place_cmp (s, j) (t, k) ≡ Less

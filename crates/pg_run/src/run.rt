@@ -1,9 +1,11 @@
 //! The writes of versions that follow one another.
-ghost use Rattle.std.specs.Prelude.{◌≡◌, ◌≤◌, ◌+◌, ◌-◌, length, map, IfOk};
+ghost use Rattle.std.specs.Prelude.{◌≡◌, ◌≤◌, ◌+◌, ◌-◌, [], length, get_or, map, IfOk};
 ghost use Rattle.std.specs.Option.{option_copied};
 ghost use Rattle.pg_chunks.specs.Digits.{digits};
 ghost use Rattle.pg_value.specs.Tables.{FitWrites};
+ghost use Rattle.pg_keyed.specs.Lists.{Each};
 ghost use Rattle.pg_keyed.specs.Keyed.{Ascends};
+ghost use Rattle.pg_value.specs.declared.shape.TableNo.{TableNo};
 ghost use Rattle.pg_value.specs.Order.{key_cmp};
 ghost use Rattle.pg_value.specs.TablesLaws.{key_named, writes_to};
 ghost use Rattle.pg_value.specs.Writes.{IsInOrder, merge};
@@ -156,6 +158,14 @@ impl Run {
         ensures in_order { Ascends key_named key_cmp result.now }
     {
         writes_of(self.tables.as_slice(), table.0 as usize)
+    }
+
+    /// The writes, one list for each table by its number, each in order of the keys; none to a table beyond the lists.
+    pub fn lists(&self) -> &[List<Write>]
+        ensures value { (table : TableNo) → get_or result.now table.0 [] ≡ writes_to table self.now.writes }
+        ensures in_order { Each (λ ws. Ascends key_named key_cmp ws) result.now }
+    {
+        self.tables.as_slice()
     }
 
     /// What the run says of the row of a table with a key. A table without writes takes one step.

@@ -4,6 +4,7 @@ pub mod Visits
 pub mod FoundBindings
 pub mod Putting
 pub mod KeptStates
+pub mod Numberings
 pub mod Numbers
 pub mod Neighbours
 pub mod Judged

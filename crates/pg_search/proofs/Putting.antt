@@ -1,5 +1,5 @@
 -- What a set gives that an item is put into.
-use Rattle.std.proofs.Common.{◌≡◌, ◌||◌, Bool, true, false, cond, List, [], ◌∷◌, ◌++◌, Contains, inl, inr, OnOk, OnErr, refl, ap, sym, ◌∙◌, subst}
+use Rattle.std.proofs.Common.{◌≡◌, ◌||◌, Bool, true, false, cond, List, [], ◌∷◌, ◌++◌, Contains, inl, inr, ℕ, Some, slice_get, IfOk, OnOk, OnErr, refl, ap, sym, ◌∙◌, subst}
 use Rattle.std.specs.List.{list_any}
 use Rattle.std.specs.declared.result.Result.{Result}
 use Rattle.std.specs.declared.result.Result.TheVariants.{Ok, Err}
@@ -31,6 +31,15 @@ module _ {X : Type 0} (eq : X → X → Bool) (same : (a b : X) → eq a b ≡ t
       go : (b : Bool) → list_any (eq x) xs ≡ b → more ≡ cond b xs (xs ++ x ∷ []) → IsPut xs x more
       go true e k = inl (k, Contains-list_any eq same xs x e)
       go false e k = inr (k, λ c. absurd (let z : true ≡ false = sym (any_of xs x c) ∙ e in cc))
+
+  -- and what its number and its place are, where it is not refused
+  pub put_when : {T E : Type 0} (xs : List X) (x : X) (more : List X) (r : Result T E) → OnOk r (more ≡ cond (list_any (eq x) xs) xs (xs ++ x ∷ [])) → OnOk r (IsPut xs x more)
+  put_when xs x more (Ok y) h = put_of xs x more h
+  put_when xs x more (Err e) h = h
+
+  pub place_when : {E : Type 0} (x : X) (more : List X) (r : Result ℕ E) → IfOk r (λ n. (k : X) × (slice_get more n ≡ Some k) × (eq x k ≡ true)) → IfOk r (λ n. slice_get more n ≡ Some x)
+  place_when x more (Ok n) h = h.1 ∙ ap Some (sym (same x h.0 h.2))
+  place_when x more (Err e) h = h
 
 -- items stay distinct
 pub distinct_put : {X : Type 0} (xs : List X) (x : X) (more : List X) → IsPut xs x more → Distinct xs → Distinct more

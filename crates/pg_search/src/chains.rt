@@ -6,7 +6,7 @@ ghost use Rattle.pg_search.specs.Chains as spec;
 ghost use Rattle.pg_search.specs.Chains.{IsPushed, list_at};
 ghost use Rattle.pg_search.specs.Puts.{IsPut};
 
-use indexmap::IndexSet;
+use crate::numbering::Numbering;
 use std::alloc::{AllocError, Global};
 use std::marker::Model;
 
@@ -21,7 +21,7 @@ pub struct Link {
 /// Lists of pairs of numbers, each once. Number 0 is the empty list.
 #[derive(Drop)]
 pub struct Chains {
-    links: IndexSet<Link>,
+    links: Numbering<Link>,
 }
 
 impl Model for Chains {
@@ -30,9 +30,9 @@ impl Model for Chains {
 
     ghost Value = { List (List (ℕ × ℕ)) };
 
-    ghost view = { λ c. lists_of c.links.keys };
+    ghost view = { λ c. lists_of c.links };
 
-    ghost invariant = { λ c. AreLinks c.links.keys };
+    ghost invariant = { λ c. AreLinks c.links };
 }
 
 impl Chains {
@@ -41,7 +41,7 @@ impl Chains {
         ensures { result ≡ [] ∷ [] }
     {
         Chains {
-            links: IndexSet::new(alloc),
+            links: Numbering::new(alloc),
         }
     }
 
@@ -73,7 +73,7 @@ impl Chains {
         if number == 0 {
             None
         } else {
-            links.get_index(number - 1)
+            links.get(number - 1)
         }
     }
 
@@ -147,13 +147,10 @@ impl Chains {
 }
 
 /// The place of a link among some, where it stands from now on.
-fn insert_link(links: &mut IndexSet<Link>, link: Link) -> Result<usize, AllocError>
-    ensures put { OnOk result (IsPut links.old.keys link links.new.keys) }
-    ensures place { IfOk result (λ k. slice_get links.new.keys k ≡ Some link) }
-    ensures err { OnErr result (links.new.keys ≡ links.old.keys) }
+fn insert_link(links: &mut Numbering<Link>, link: Link) -> Result<usize, AllocError>
+    ensures put { OnOk result (IsPut links.old link links.new) }
+    ensures place { IfOk result (λ k. slice_get links.new k ≡ Some link) }
+    ensures err { OnErr result (links.new ≡ links.old) }
 {
-    match links.insert_full(link) {
-        Ok((place, _)) => Ok(place),
-        Err(_) => Err(AllocError),
-    }
+    links.insert(link)
 }

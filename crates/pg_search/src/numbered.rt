@@ -12,7 +12,7 @@ ghost use Rattle.pg_search.specs.Puts.{IsPut};
 ghost use Rattle.pg_search.specs.Steps.{IsNumbered, IsLonger, IsNamed};
 
 use crate::chains::{Chains, Link};
-use indexmap::IndexSet;
+use crate::numbering::Numbering;
 use pg_value::{ElemId, copy_key};
 use pg_view::Neighbour;
 use std::alloc::{AllocError, Global};
@@ -29,20 +29,19 @@ pub fn copy_elem(alloc: Global, elem: &ElemId) -> Result<ElemId, AllocError>
 }
 
 /// The place of an element among some, where it stands from now on.
-fn insert_elem(elems: &mut IndexSet<ElemId>, elem: ElemId) -> Result<usize, AllocError>
-    ensures put { OnOk result (IsPut elems.old.keys elem elems.new.keys) }
-    ensures place { IfOk result (λ k. slice_get elems.new.keys k ≡ Some elem) }
-    ensures err { OnErr result (elems.new.keys ≡ elems.old.keys) }
+fn insert_elem(elems: &mut Numbering<ElemId>, elem: ElemId) -> Result<usize, AllocError>
+    ensures put { OnOk result (IsPut elems.old elem elems.new) }
+    ensures place { IfOk result (λ k. slice_get elems.new k ≡ Some elem) }
+    ensures err { OnErr result (elems.new ≡ elems.old) }
 {
-    let (place, _) = elems.insert_full(elem)?;
-    Ok(place)
+    elems.insert(elem)
 }
 
 /// The start of a search, which has the number 0, and the elements, walks and mentions that it has come to.
 #[derive(Drop)]
 pub struct Numbered<'a> {
     start: &'a ElemId,
-    elems: IndexSet<ElemId>,
+    elems: Numbering<ElemId>,
     walks: Chains,
     names: Chains,
 }
@@ -52,9 +51,9 @@ impl<'a> Model for Numbered<'a> {
 
     ghost Value = { Numbers };
 
-    ghost view = { λ s. record { start = s.start.now; elems = s.elems.keys; walks = s.walks; names = s.names } };
+    ghost view = { λ s. record { start = s.start.now; elems = s.elems; walks = s.walks; names = s.names } };
 
-    ghost invariant = { λ s. AreNumbers (record { start = s.start.now; elems = s.elems.keys; walks = s.walks; names = s.names }) };
+    ghost invariant = { λ s. AreNumbers (record { start = s.start.now; elems = s.elems; walks = s.walks; names = s.names }) };
 }
 
 impl<'a> Numbered<'a> {
@@ -62,7 +61,7 @@ impl<'a> Numbered<'a> {
     pub fn new(alloc: Global, start: &'a ElemId) -> Result<Numbered<'a>, AllocError>
         ensures { IfOk result (λ n. n ≡ spec.first_numbers start.now) }
     {
-        let mut elems = IndexSet::new(alloc);
+        let mut elems = Numbering::new(alloc);
         let first = copy_elem(alloc, start)?;
         insert_elem(&mut elems, first)?;
         Ok(Numbered {
@@ -120,7 +119,7 @@ impl<'a> Numbered<'a> {
     pub fn elem(&self, number: usize) -> &ElemId
         ensures { result.now ≡ spec.elem_at self.now number }
     {
-        match self.elems.get_index(number) {
+        match self.elems.get(number) {
             Some(elem) => elem,
             None => self.start,
         }

@@ -49,7 +49,7 @@ fn is_among(tables: &[TableNo], table: TableNo) -> bool
 }
 
 /// Whether an element is a vertex of a graph: its table first, and only then its row.
-fn is_vertex<V: View, L: Ledger>(
+pub fn is_vertex<V: View, L: Ledger>(
     view: &V,
     graph: &GraphShape,
     elem: &ElemId,

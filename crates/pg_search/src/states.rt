@@ -3,7 +3,7 @@ ghost use Rattle.std.specs.Prelude.{◌≡◌, [], length, slice_get, OnOk, OnEr
 ghost use Rattle.pg_meaning.specs.Bindings.{Distinct};
 ghost use Rattle.pg_search.specs.Puts.{IsPut};
 
-use indexmap::IndexSet;
+use crate::numbering::Numbering;
 use std::alloc::{AllocError, Global};
 use std::marker::Model;
 
@@ -21,7 +21,7 @@ pub struct Kept {
 /// States, each once, in the order in which they were put.
 #[derive(Drop)]
 pub struct States {
-    kept: IndexSet<Kept>,
+    kept: Numbering<Kept>,
 }
 
 impl Model for States {
@@ -31,9 +31,9 @@ impl Model for States {
 
     ghost Value = { List Kept };
 
-    ghost view = { λ s. s.kept.keys };
+    ghost view = { λ s. s.kept };
 
-    ghost invariant = { λ s. Distinct s.kept.keys };
+    ghost invariant = { λ s. Distinct s.kept };
 }
 
 impl States {
@@ -42,7 +42,7 @@ impl States {
         ensures { result ≡ [] }
     {
         States {
-            kept: IndexSet::new(alloc),
+            kept: Numbering::new(alloc),
         }
     }
 
@@ -57,7 +57,7 @@ impl States {
     pub fn get(&self, at: usize) -> Option<Kept>
         ensures { result ≡ slice_get self.now at }
     {
-        self.kept.get_index(at).copied()
+        self.kept.get(at).copied()
     }
 
     /// Puts a state behind the others, where it is not among them. After want of memory they are as before.
@@ -77,12 +77,10 @@ impl States {
 }
 
 /// Puts a state among some.
-fn insert(kept: &mut IndexSet<Kept>, state: Kept) -> Result<(), AllocError>
-    ensures ok { OnOk result (IsPut kept.old.keys state kept.new.keys) }
-    ensures err { OnErr result (kept.new.keys ≡ kept.old.keys) }
+fn insert(kept: &mut Numbering<Kept>, state: Kept) -> Result<(), AllocError>
+    ensures ok { OnOk result (IsPut kept.old state kept.new) }
+    ensures err { OnErr result (kept.new ≡ kept.old) }
 {
-    match kept.insert(state) {
-        Ok(_) => Ok(()),
-        Err(_) => Err(AllocError),
-    }
+    kept.insert(state)?;
+    Ok(())
 }

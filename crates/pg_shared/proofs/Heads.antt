@@ -15,7 +15,7 @@ use Rattle.pg_shared.specs.Parts.{joined, before_part, heads, Leads, IsLong, IsK
 use Rattle.pg_shared.proofs.Places.{rank_none, sought_before, sought_after, shift_zero, shift_shift}
 use Rattle.pg_shared.proofs.Walks.{each_at, end_of, start_at}
 
-greater_is : (r : Ordering) → is_gt r ≡ true → r ≡ Greater
+pub greater_is : (r : Ordering) → is_gt r ≡ true → r ≡ Greater
 greater_is Less h = cc
 greater_is Equal h = cc
 greater_is Greater h = refl
@@ -29,7 +29,7 @@ module _ {X K : Type 0} (key : X → K) (cmp : K → K → Ordering) (o : Exact 
   abbrev H : K → List (Part X) → ℕ
   H k ps = heads key cmp k ps
 
-  above_second : (k : K) (xs ys : List X) → Above key cmp k (xs ++ ys) → Above key cmp k ys
+  pub above_second : (k : K) (xs ys : List X) → Above key cmp k (xs ++ ys) → Above key cmp k ys
   above_second k [] ys a = a
   above_second k (x ∷ xs) ys a = above_second k xs ys a.1
 
@@ -41,7 +41,7 @@ module _ {X K : Type 0} (key : X → K) (cmp : K → K → Ordering) (o : Exact 
   ascends_first [] ys a = tt
   ascends_first (x ∷ xs) ys a = (above_first (key x) xs ys a.0, ascends_first xs ys a.1)
 
-  ascends_second : (xs ys : List X) → Ascends key cmp (xs ++ ys) → Ascends key cmp ys
+  pub ascends_second : (xs ys : List X) → Ascends key cmp (xs ++ ys) → Ascends key cmp ys
   ascends_second [] ys a = a
   ascends_second (x ∷ xs) ys a = ascends_second xs ys a.1
 
@@ -55,7 +55,7 @@ module _ {X K : Type 0} (key : X → K) (cmp : K → K → Ordering) (o : Exact 
   first_above p ys leads a = above_second (key p.first) leads.0 ys (subst (λ l. Ascends key cmp (l ++ ys)) leads.1 a).0
 
   -- what is below a key that is not above another
-  reach : (j i k : K) → cmp j i ≡ Less → is_gt (cmp i k) ≡ false → cmp j k ≡ Less
+  pub reach : (j i k : K) → cmp j i ≡ Less → is_gt (cmp i k) ≡ false → cmp j k ≡ Less
   reach j i k l n = go (cmp i k) refl n
     where
       go : (r : Ordering) → cmp i k ≡ r → is_gt r ≡ false → cmp j k ≡ Less

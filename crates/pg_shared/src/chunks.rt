@@ -1,14 +1,14 @@
 //! Items in order of their keys, in chunks that several lists share.
-ghost use Rattle.std.specs.Prelude.{◌≡◌, ◌+◌, ◌<◌, ◌≤◌, length, get_or, IfOk};
+ghost use Rattle.std.specs.Prelude.{◌≡◌, ◌+◌, ◌<◌, ◌≤◌, length, get_or, slice_get, IfOk};
 ghost use Rattle.std.specs.Option.{option_copied};
-ghost use Rattle.pg_keyed.specs.Keyed.{Ascends, Sought, get};
+ghost use Rattle.pg_keyed.specs.Keyed.{Ascends, Sought, get, put};
 ghost use Rattle.pg_chunks.specs.Digits.{digits};
 ghost use Rattle.pg_chunks.specs.Parts.{IsRun};
 
-use crate::Copied;
 use crate::maker::Maker;
 use crate::part::{Part, part_at};
 use crate::search::seek;
+use crate::{Change, Copied};
 use pg_chunks::{Keyed, Probe, Steps};
 use pg_value::{List, Shared};
 use std::alloc::{AllocError, Global};
@@ -72,6 +72,17 @@ impl<T: Keyed> SharedChunks<T> {
         &self.run(at)[0]
     }
 
+    /// The item at a place in that order, from 0; None exactly where there are no more than `at`.
+    pub fn get(&self, at: usize) -> Option<&T>
+        ensures { option_copied result ≡ slice_get self.now at }
+    {
+        if at < self.len() {
+            Some(self.at(at))
+        } else {
+            None
+        }
+    }
+
     /// The item of a key, if there is one. It reads no more than `seek` does, and the item.
     pub fn find<P: Probe<T>, L: Ledger>(&self, key: &P, steps: &mut Steps<L>) -> Option<&T>
         ensures value { option_copied result ≡ get T.key_of T.key_cmp (P.sought key.now) self.now }
@@ -117,6 +128,28 @@ impl<T: Keyed + Copied> SharedChunks<T> {
     {
         let mut made = Maker::new(alloc);
         made.push_items(alloc, items)?;
+        let parts = made.finish(alloc)?;
+        Ok(SharedChunks {
+            parts: Shared::new(alloc, List::from_vec(parts))?,
+        })
+    }
+
+    /// The list with changes put on it, that are in order of the keys that they name, no key twice. Chunks that no change
+    /// touches are shared, all but those behind a touched chunk that got too small. This list stays. Only want of memory
+    /// refuses it.
+    pub fn merged<C: Change<T>>(
+        &self,
+        alloc: Global,
+        changes: &[C],
+    ) -> Result<SharedChunks<T>, AllocError>
+        requires { Ascends C.named T.key_cmp changes.now }
+        ensures { IfOk result (λ merged. merged ≡ put T.key_of C.named C.given T.key_cmp self.now changes.now) }
+    {
+        if changes.is_empty() {
+            return self.share();
+        }
+        let mut made = Maker::new(alloc);
+        made.push_merged(alloc, self.parts.as_slice(), changes)?;
         let parts = made.finish(alloc)?;
         Ok(SharedChunks {
             parts: Shared::new(alloc, List::from_vec(parts))?,

@@ -17,7 +17,7 @@ get_behind [] ys k = ap (slice_get ys) (let e : 0 + k ≡ k = omega arith in e)
 get_behind (x ∷ xs) ys k = ap (slice_get (x ∷ (xs ++ ys))) (let e : length (x ∷ xs) + k ≡ suc (length xs + k) = omega arith in e) ∙ get_behind xs ys k
 
 module _ (stages : List Stage) (start : ElemId) where
-  grown_both : (all : List State) (xs ys : List Step) → grown stages start all (xs ++ ys) ≡ grown stages start (grown stages start all xs) ys
+  pub grown_both : (all : List State) (xs ys : List Step) → grown stages start all (xs ++ ys) ≡ grown stages start (grown stages start all xs) ys
   grown_both all [] ys = refl
   grown_both all (x ∷ xs) ys = grown_both (all ++ came stages start all x ∷ []) xs ys
 

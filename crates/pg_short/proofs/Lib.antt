@@ -13,3 +13,7 @@ pub mod Searching
 pub mod Queued
 pub mod Going
 pub mod Begun
+pub mod Along
+pub mod Naming
+pub mod Tracing
+pub mod Ended

@@ -1,13 +1,13 @@
 -- Where each spot that a walk comes to is visited at its least length, the bindings of the visited states behind the last stage are what ANY and
 -- ANY SHORTEST keep of the bindings that are allowed from the start.
-use Rattle.std.proofs.Common.{◌≡◌, ◌≤◌, ℕ, zero, suc, Bool, true, false, List, [], ◌∷◌, length, drop, map, Contains, refl, arith, ap, sym, ◌∙◌, subst}
-use Rattle.std.specs.Prelude.{None, slice_get, filter, nat_le}
+use Rattle.std.proofs.Common.{◌≡◌, ◌≤◌, ℕ, zero, suc, true, false, List, [], ◌∷◌, length, drop, map, Contains, refl, arith, ap, sym, ◌∙◌, subst}
+use Rattle.std.specs.Prelude.{None, slice_get, filter}
 use Rattle.std.proofs.lemmas.Bool.{leb-true, le-leb}
 use Rattle.pg_value.specs.declared.shape.ElemId.{ElemId}
 use Rattle.pg_value.specs.declared.shape.Shapes.{Shapes}
 use Rattle.pg_value.specs.Graph.{vertices}
 use Rattle.pg_value.specs.Tables.{Tables, IsInOrder}
-use Rattle.pg_ast.specs.declared.pattern.Selector.TheVariants.{Any, AnyShortest}
+use Rattle.pg_ast.specs.declared.pattern.Selector.TheVariants.{AnyShortest}
 use Rattle.pg_meaning.specs.declared.checked.CheckedPath.{CheckedPath}
 use Rattle.pg_meaning.specs.Walks.{last_vertex}
 use Rattle.pg_meaning.specs.Fits.{Mention}
@@ -23,6 +23,7 @@ use Rattle.pg_auto.specs.Steps.{StepsOn, StepsEnd, IsSoundTask}
 use Rattle.pg_short.specs.Selections.{IsAllowedFrom}
 use Rattle.std.specs.List.{list_any}
 use Rattle.pg_short.specs.Spots.{Spot, spot_of, needed, names}
+use Rattle.pg_short.specs.Walks.{is_end, bindings_in}
 use Rattle.pg_short.proofs.Lists.{kept, none_from, beyond}
 use Rattle.pg_short.proofs.Follows.{all_permitted}
 use Rattle.pg_short.specs.Searches.{IsReached, Searches}
@@ -35,14 +36,6 @@ pub record Laws : Type 0 where
   pub stands : StartStands
   pub on : StepsOn
   pub end : StepsEnd
-
--- a state behind the last stage
-abbrev pub is_end : List Stage → State → Bool
-is_end stages s = nat_le (length stages) s.stage
-
--- the bindings of the states behind the last stage
-abbrev pub bindings_in : Task → List ℕ → List State → List Binding
-bindings_in t vars all = map (λ s. binding_of t.start vars (walked s)) (filter (is_end t.stages) all)
 
 distinct_images : {X Y Z : Type 0} (f : X → Y) (g : X → Z) (xs : List X) → ((x y : X) → Contains xs x → Contains xs y → f x ≡ f y → g x ≡ g y) → Distinct (map g xs) → Distinct (map f xs)
 distinct_images f g [] h d = tt
@@ -173,9 +166,6 @@ module _ (laws : Laws) (shapes : Shapes) (tables : Tables) (path : CheckedPath) 
       let n = ap (λ (x : Binding). length x.hops) e.3 in
       omega arith
 
-  pub any_selected : IsSelected Any (IsAllowedFrom shapes tables path start) (bindings_in task path.vars all)
-  any_selected = record { distinct = distinct; allowed = gives; complete = record { some = some_of; once = one_of } }
-
   pub shortest_selected : IsSelected AnyShortest (IsAllowedFrom shapes tables path start) (bindings_in task path.vars all)
   shortest_selected = record { distinct = distinct; allowed = gives; complete = (record { some = some_of; once = one_of }, shortest_of) }
 
@@ -183,9 +173,6 @@ module _ (laws : Laws) (shapes : Shapes) (tables : Tables) (path : CheckedPath) 
 module _ (shapes : Shapes) (tables : Tables) (path : CheckedPath) (start : ElemId) (none : Contains (vertices path.graph tables) start → ⊥) where
   never : (b : Binding) → IsAllowedFrom shapes tables path start b → ⊥
   never b a = none (subst (λ x. Contains (vertices path.graph tables) x) a.1 a.0.binding.start)
-
-  pub any_none : IsSelected Any (IsAllowedFrom shapes tables path start) []
-  any_none = record { distinct = tt; allowed = λ b c. absurd (in_nil b c); complete = record { some = λ b a. absurd (never b a); once = λ b c d e p. absurd (in_nil b d) } }
 
   pub shortest_none : IsSelected AnyShortest (IsAllowedFrom shapes tables path start) []
   shortest_none = record { distinct = tt; allowed = λ b c. absurd (in_nil b c); complete = (record { some = λ b a. absurd (never b a); once = λ b c d e p. absurd (in_nil b d) }, λ b c. absurd (in_nil b c)) }

@@ -6,3 +6,4 @@ pub mod Steps
 pub mod Visits
 pub mod Searches
 pub mod Found
+pub mod Walks

@@ -1,5 +1,5 @@
 -- What a shortest search gives: of the bindings that a path pattern allows from one start, those that a selector keeps.
-use Rattle.std.specs.Prelude.{◌≡◌, List, map}
+use Rattle.std.specs.Prelude.{◌≡◌, ◌<◌, ◌^◌, List, map, length}
 use Rattle.pg_value.specs.declared.shape.ElemId.{ElemId}
 use Rattle.pg_value.specs.declared.shape.Shapes.{Shapes}
 use Rattle.pg_value.specs.Tables.{Tables}
@@ -18,3 +18,7 @@ pub record AreSelected (selector : Selector) (shapes : Shapes) (tables : Tables)
   pub kept : List Binding
   pub selected : IsSelected selector (IsAllowedFrom shapes tables path start) kept
   pub given : found ≡ map path_binding kept
+
+-- no list of it, of which its vertices are the longest, has so many items
+abbrev pub IsShort : PathBinding → Type 0
+IsShort b = length b.vertices < 2 ^ 34

@@ -76,7 +76,7 @@ fn next_of(stage: &Stage<'_>, done: u32) -> u32
 }
 
 /// What a round names for the parts that stand once.
-fn singles<'a>(
+pub fn singles<'a>(
     alloc: Global,
     stage: &Stage<'_>,
     vertex: &'a ElemId,

@@ -1,5 +1,5 @@
 -- What is found in a base is what its tables hold.
-use Rattle.std.proofs.Common.{ℕ, zero, suc, ◌≡◌, ◌≤◌, ◌+◌, List, [], ◌∷◌, length, map, refl, ap, sym, subst, ◌∙◌, arith}
+use Rattle.std.proofs.Common.{ℕ, zero, suc, ◌≡◌, ◌≤◌, ◌+◌, List, [], ◌∷◌, length, map, get_or, refl, ap, sym, subst, ◌∙◌, arith}
 use Rattle.std.specs.Prelude.{slice_get}
 use Rattle.std.specs.declared.option.Option.{Option}
 use Rattle.std.specs.Option.{option_map, unwrap_or}
@@ -12,7 +12,7 @@ use Rattle.pg_value.specs.declared.shape.TableNo.{TableNo}
 use Rattle.pg_value.specs.declared.shape.EdgeNo.{EdgeNo}
 use Rattle.pg_value.specs.declared.shape.EdgeShape.{EdgeShape}
 use Rattle.pg_value.specs.declared.shape.Shapes.{Shapes}
-use Rattle.pg_value.specs.Tables.{Stored, stored_at}
+use Rattle.pg_value.specs.Tables.{Stored, stored_at, held_in}
 use Rattle.pg_value.specs.TablesLaws.{stored_in, stored_at_in}
 use Rattle.pg_adj.specs.declared.ends.EdgeEnds.{EdgeEnds}
 use Rattle.pg_adj.specs.declared.group.Group.{Group}
@@ -21,6 +21,7 @@ use Rattle.pg_adj.specs.Adjacency.{AreBoth, side, side_of, groups_of}
 use Rattle.pg_adj.specs.Groups.{AreGroups, group_at, edges_of, others_of}
 use Rattle.pg_view.specs.RowEnds.{all_ends}
 use Rattle.pg_view.specs.Lists.{joined, rows_in, Hold, AreLists}
+use Rattle.pg_snap.specs.Costs.{base_cost}
 use Rattle.pg_snap.specs.Bases.{BaseOf, ends_held, ends_in_base, entries_in_base, AreListEnds}
 
 pub found : (lists : List (List Stored)) (t : TableNo) (k : List Value) (rows : List Stored) → Hold lists (joined lists) → rows ≡ rows_in lists t → stored_in k rows ≡ stored_at (t.0, k) (joined lists)
@@ -62,3 +63,10 @@ group_cost shapes n lists ends base e dir before after a b q h =
     let d = digits_more _ _ (groups_in shapes n lists ends e dir a b).few in
     let k = ap (λ c. digits (length (ends_in_base c e))) q in
     omega (arith, h, d, k)
+
+pub row_cost : (shapes : Shapes) (n : ℕ) (lists : List (List Stored)) (base : BaseOf) (t : TableNo) (before after : ℕ) → AreLists shapes lists → record { shapes = shapes; no = n; tables = joined lists } ≡ base
+    → after ≤ before + 1 + digits (length (get_or lists t.0 [])) → after ≤ before + base_cost base t
+row_cost shapes n lists base t before after a q h =
+    let e = ap (λ rows. digits (length rows)) (sym (a.hold t)) in
+    let k = ap (λ c. digits (length (held_in t c.tables))) q in
+    omega (arith, h, e, k)

@@ -1,5 +1,6 @@
 pub mod Growing
 pub mod HopLaws
+pub mod MergedLaws
 pub mod BaseLaws
 pub mod RowLaws
 pub mod GivenLaws

@@ -3,17 +3,21 @@ ghost use Rattle.std.specs.Prelude.{◌≡◌, ◌≤◌, ◌+◌, [], length, m
 ghost use Rattle.std.specs.Option.{option_copied, unwrap_or};
 ghost use Rattle.pg_chunks.specs.Digits.{digits};
 ghost use Rattle.pg_value.specs.Tables.{FitTables, held_in, stored_at};
-ghost use Rattle.pg_value.specs.TablesLaws.{stored_in};
+ghost use Rattle.pg_value.specs.Log.{put};
 ghost use Rattle.pg_meaning.specs.Sound.Graphs.{AreSoundShapes};
 ghost use Rattle.pg_adj.specs.Groups as groups;
 ghost use Rattle.pg_view.specs.Lists.{AreLists, joined};
 ghost use Rattle.pg_snap.specs.Bases.{entries_in_base};
 ghost use Rattle.pg_snap.specs.Costs.{base_cost, base_search};
 
-use crate::ends::{ends_of, rows_of};
+use crate::ends::ends_of;
 use pg_adj::{Adj, Group};
 use pg_chunks::{Chunks, Steps};
+use pg_rows::RowArrays;
+use pg_run::Run;
+use pg_shared::SharedChunks;
 use pg_value::{Dir, EdgeNo, Key, Shapes, Shared, Stored, TableNo};
+use pg_view::lists_are_tables;
 use std::alloc::{AllocError, Global};
 use std::marker::Model;
 use std::sync::ledger::Ledger;
@@ -24,7 +28,7 @@ use std::sync::ledger::Ledger;
 pub struct Base {
     shapes: Shared<Shapes>,
     no: u64,
-    rows: Vec<Chunks<Stored>>,
+    rows: RowArrays,
     ends: Adj,
 }
 
@@ -34,29 +38,28 @@ impl Model for Base {
 
     ghost Value = { BaseOf };
 
-    ghost view = { λ b. record { shapes = b.shapes; no = b.no; tables = joined b.rows.items } };
+    ghost view = { λ b. record { shapes = b.shapes; no = b.no; tables = joined b.rows } };
 
-    ghost invariant = { λ b. AreLists b.shapes b.rows.items × AreListEnds b.shapes.edges b.rows.items b.ends };
+    ghost invariant = { λ b. AreLists b.shapes b.rows × AreListEnds b.shapes.edges b.rows b.ends };
 }
 
-/// The row of a key among the rows of one table.
-fn row_among<'a, L: Ledger>(
-    rows: &'a Chunks<Stored>,
-    key: &Key,
-    steps: &mut Steps<L>,
-) -> Option<&'a Stored>
-    ensures value { option_copied result ≡ stored_in key.now.values rows.now }
-    ensures counts { steps.old + 1 ≤ steps.new }
-    ensures cost { steps.new ≤ steps.old + 1 + digits (length rows.now) }
+/// The base of a version, by its number, of rows that fit its shapes.
+fn base_of(
+    alloc: Global,
+    shapes: Shared<Shapes>,
+    no: u64,
+    rows: RowArrays,
+) -> Result<Base, AllocError>
+    requires { AreLists shapes rows }
+    ensures { IfOk result (λ base. base ≡ record { shapes = shapes; no = no; tables = joined rows }) }
 {
-    if rows.is_empty() {
-        steps.tick();
-        return None;
-    }
-    match rows.seek(key, steps) {
-        Ok(at) => rows.get(at),
-        Err(_) => None,
-    }
+    let ends = ends_of(alloc, shapes.get().edges.as_slice(), &rows)?;
+    Ok(Base {
+        shapes,
+        no,
+        rows,
+        ends,
+    })
 }
 
 impl Base {
@@ -70,13 +73,22 @@ impl Base {
         requires { AreLists shapes.now rows.items }
         ensures { IfOk result (λ base. base ≡ record { shapes = shapes.now; no = no; tables = joined rows.items }) }
     {
-        let ends = ends_of(alloc, shapes.get().edges.as_slice(), rows.as_slice())?;
-        Ok(Base {
-            shapes: shapes.share()?,
-            no,
-            rows,
-            ends,
-        })
+        let rows = RowArrays::build(alloc, rows.as_slice())?;
+        base_of(alloc, shapes.share()?, no, rows)
+    }
+
+    /// The base of a later version: this one under the writes of a run that follows it. It shares all chunks of rows that no
+    /// write touches. Only want of memory refuses it, and this base stays.
+    pub fn merged(&self, alloc: Global, run: &Run) -> Result<Base, AllocError>
+        requires shapes { run.now.shapes ≡ self.now.shapes }
+        requires follows { run.now.after ≡ self.now.no }
+        ensures { IfOk result (λ base. base ≡ record { shapes = self.now.shapes; no = run.now.last; tables = put self.now.tables run.now.writes }) }
+    {
+        run.well_made();
+        lists_are_tables();
+        let shapes = self.shapes.share()?;
+        let rows = self.rows.merged(alloc, run.lists())?;
+        base_of(alloc, shapes, run.last(), rows)
     }
 
     /// The version.
@@ -94,10 +106,10 @@ impl Base {
     }
 
     /// The rows of a table, in order of their keys; None for a table beyond all that have rows.
-    pub fn rows(&self, table: TableNo) -> Option<&Chunks<Stored>>
+    pub fn rows(&self, table: TableNo) -> Option<&SharedChunks<Stored>>
         ensures { unwrap_or (option_copied result) [] ≡ held_in table self.now.tables }
     {
-        rows_of(self.rows.as_slice(), table)
+        self.rows.rows(table)
     }
 
     /// The row of a table with a key, None exactly where there is none.
@@ -106,13 +118,7 @@ impl Base {
         ensures counts { steps.old + 1 ≤ steps.new }
         ensures cost { steps.new ≤ steps.old + base_cost self.now table }
     {
-        match self.rows(table) {
-            Some(rows) => row_among(rows, key, steps),
-            None => {
-                steps.tick();
-                None
-            }
-        }
+        self.rows.get(table, key, steps)
     }
 
     /// The rows of an edge table that name a vertex at that end, each with its other end; None exactly where there is none.

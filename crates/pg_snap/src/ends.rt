@@ -1,26 +1,16 @@
 //! The edges of a base by the vertices at their ends.
 ghost use Rattle.std.specs.Prelude.{◌≡◌, [], ◌++◌, map, IfOk, OnOk};
 ghost use Rattle.std.specs.List.{cons_option};
-ghost use Rattle.std.specs.Option.{option_copied, unwrap_or};
 ghost use Rattle.pg_view.specs.Lists.{rows_in};
 ghost use Rattle.pg_view.specs.RowEnds as spec;
 ghost use Rattle.pg_snap.specs.Bases.{AreListEnds};
 
 use pg_adj::{Adj, EdgeEnds};
-use pg_chunks::Chunks;
+use pg_rows::RowArrays;
 use pg_run::row_ends;
-use pg_value::{EdgeShape, List, Stored, TableNo};
+use pg_shared::SharedChunks;
+use pg_value::{EdgeShape, List, Stored};
 use std::alloc::{AllocError, Global};
-
-/// The rows of a table; None for one beyond the lists, which has none.
-pub fn rows_of(lists: &[Chunks<Stored>], table: TableNo) -> Option<&Chunks<Stored>>
-    ensures { unwrap_or (option_copied result) [] ≡ rows_in lists.now table }
-{
-    match lists.get(table.0 as usize) {
-        Some(rows) => Some(rows),
-        None => None,
-    }
-}
 
 /// What a row of an edge table names as its ends; None where it names no two.
 fn stored_ends(
@@ -63,7 +53,7 @@ fn push_ends(
 fn ends_among(
     alloc: Global,
     shape: &EdgeShape,
-    rows: &Chunks<Stored>,
+    rows: &SharedChunks<Stored>,
 ) -> Result<List<EdgeEnds>, AllocError>
     ensures { IfOk result (λ all. all ≡ spec.all_ends shape.now rows.now) }
 {
@@ -83,12 +73,12 @@ fn ends_among(
 fn table_ends(
     alloc: Global,
     shape: &EdgeShape,
-    lists: &[Chunks<Stored>],
+    rows: &RowArrays,
 ) -> Result<List<EdgeEnds>, AllocError>
-    ensures { IfOk result (λ all. all ≡ spec.all_ends shape.now (rows_in lists.now shape.now.table)) }
+    ensures { IfOk result (λ all. all ≡ spec.all_ends shape.now (rows_in rows.now shape.now.table)) }
 {
-    match rows_of(lists, shape.table) {
-        Some(rows) => ends_among(alloc, shape, rows),
+    match rows.rows(shape.table) {
+        Some(held) => ends_among(alloc, shape, held),
         None => Ok(List::new(alloc)),
     }
 }
@@ -97,24 +87,20 @@ fn table_ends(
 fn all_ends(
     alloc: Global,
     shapes: &[EdgeShape],
-    lists: &[Chunks<Stored>],
+    rows: &RowArrays,
 ) -> Result<List<List<EdgeEnds>>, AllocError>
-    ensures { IfOk result (λ all. all ≡ map (λ shape. spec.all_ends shape (rows_in lists.now shape.table)) shapes.now) }
+    ensures { IfOk result (λ all. all ≡ map (λ shape. spec.all_ends shape (rows_in rows.now shape.table)) shapes.now) }
 {
     let mut all = List::with_room(alloc, shapes.len())?;
     for shape in shapes {
-        all.push(table_ends(alloc, shape, lists)?)?;
+        all.push(table_ends(alloc, shape, rows)?)?;
     }
     Ok(all)
 }
 
 /// The rows of edge tables by the vertices that they name, where there is one list of rows for each table.
-pub fn ends_of(
-    alloc: Global,
-    shapes: &[EdgeShape],
-    lists: &[Chunks<Stored>],
-) -> Result<Adj, AllocError>
-    ensures { IfOk result (AreListEnds shapes.now lists.now) }
+pub fn ends_of(alloc: Global, shapes: &[EdgeShape], rows: &RowArrays) -> Result<Adj, AllocError>
+    ensures { IfOk result (AreListEnds shapes.now rows.now) }
 {
-    Adj::build(alloc, all_ends(alloc, shapes, lists)?)
+    Adj::build(alloc, all_ends(alloc, shapes, rows)?)
 }

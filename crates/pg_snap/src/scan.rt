@@ -5,7 +5,7 @@ ghost use Rattle.pg_snap.specs.Scans as spec;
 ghost use Rattle.pg_snap.specs.Scans.{writes_of, Gives};
 
 use crate::changes::Change;
-use pg_chunks::Chunks;
+use pg_shared::SharedChunks;
 use pg_value::{Key, Row, Stored, order_keys};
 use std::cmp::Ordering;
 use std::marker::Model;
@@ -18,7 +18,7 @@ pub struct Held<'a> {
 }
 
 /// The row at a place.
-fn row_at<'a>(rows: Option<&'a Chunks<Stored>>, at: usize) -> Option<&'a Stored>
+fn row_at<'a>(rows: Option<&'a SharedChunks<Stored>>, at: usize) -> Option<&'a Stored>
     ensures value { option_copied result ≡ slice_get (unwrap_or (option_copied rows.entry) []) at }
     ensures within { OnSome result (at + 1 < 2 ^ 64) }
 {
@@ -29,7 +29,7 @@ fn row_at<'a>(rows: Option<&'a Chunks<Stored>>, at: usize) -> Option<&'a Stored>
 }
 
 /// Whether the row at a place stands before a key.
-fn is_before(rows: Option<&Chunks<Stored>>, at: usize, key: &Key) -> bool
+fn is_before(rows: Option<&SharedChunks<Stored>>, at: usize, key: &Key) -> bool
     ensures { result ≡ spec.stands_before key.now.values (drop at (unwrap_or (option_copied rows.entry) [])) }
 {
     match row_at(rows, at) {
@@ -39,7 +39,7 @@ fn is_before(rows: Option<&Chunks<Stored>>, at: usize, key: &Key) -> bool
 }
 
 /// The place behind the row at a place, where that has the key, and else the place.
-fn past(rows: Option<&Chunks<Stored>>, at: usize, key: &Key) -> usize
+fn past(rows: Option<&SharedChunks<Stored>>, at: usize, key: &Key) -> usize
     ensures { drop result (unwrap_or (option_copied rows.entry) []) ≡ spec.without key.now.values (drop at (unwrap_or (option_copied rows.entry) [])) }
 {
     match row_at(rows, at) {
@@ -52,7 +52,7 @@ fn past(rows: Option<&Chunks<Stored>>, at: usize, key: &Key) -> usize
 }
 
 /// The row at a place, behind which the place is then.
-fn next_row<'a>(rows: Option<&'a Chunks<Stored>>, at: &mut usize) -> Option<Held<'a>>
+fn next_row<'a>(rows: Option<&'a SharedChunks<Stored>>, at: &mut usize) -> Option<Held<'a>>
     ensures { Gives (drop at.old (unwrap_or (option_copied rows.entry) [])) (drop at.new (unwrap_or (option_copied rows.entry) [])) result }
 {
     match row_at(rows, *at) {
@@ -69,7 +69,7 @@ fn next_row<'a>(rows: Option<&'a Chunks<Stored>>, at: &mut usize) -> Option<Held
 
 /// The next row of a walk over rows and changes, from a place in each on, and the places behind it.
 fn next_held<'a>(
-    rows: Option<&'a Chunks<Stored>>,
+    rows: Option<&'a SharedChunks<Stored>>,
     changes: &[Change<'a>],
     at: &mut usize,
     next: &mut usize,
@@ -99,7 +99,7 @@ fn next_held<'a>(
 /// The rows of a table that a walk has not come to yet, in order of their keys.
 #[derive(Drop)]
 pub struct Scan<'a> {
-    rows: Option<&'a Chunks<Stored>>,
+    rows: Option<&'a SharedChunks<Stored>>,
     at: usize,
     changes: Vec<Change<'a>>,
     next: usize,
@@ -118,7 +118,7 @@ impl<'a> Model for Scan<'a> {
 
 impl<'a> Scan<'a> {
     /// The rows of one table under changes of it.
-    pub(crate) fn new(rows: Option<&'a Chunks<Stored>>, changes: Vec<Change<'a>>) -> Scan<'a>
+    pub(crate) fn new(rows: Option<&'a SharedChunks<Stored>>, changes: Vec<Change<'a>>) -> Scan<'a>
         ensures { result ≡ spec.under (unwrap_or (option_copied rows.entry) []) (writes_of changes.entry.items) }
     {
         Scan {

@@ -1,5 +1,6 @@
 mod Columns
 mod Loops
+pub mod HeldLaws
 pub mod Missing
 pub mod VerdictLaws
 pub mod TargetLaws

@@ -3,3 +3,4 @@ pub mod ChangeVerdict
 pub mod ChangeEffects
 pub mod JudgedRows
 pub mod KeyOfCondition
+pub mod HeldRows

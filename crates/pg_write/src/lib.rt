@@ -19,4 +19,4 @@ pub use apply::effect;
 pub use change::resolve::{resolve_change, resolve_delete, resolve_update, resolve_values};
 pub use laws::effects_fit;
 pub use refused::EffectRefused;
-pub use tables::{TableLists, TableRows};
+pub use tables::{HeldRow, TableLists, TableRows};

@@ -8,11 +8,13 @@ ghost use Rattle.pg_expr.specs.Conditions.{IsCheckedForRow};
 ghost use Rattle.pg_rules.specs.Changes.InsertEffect.{given, plain_value, row_of, write_of};
 ghost use Rattle.pg_rules.specs.Changes.ChangeEffect.{takes, value_set, updated, update_of, delete_of};
 ghost use Rattle.pg_write.specs.JudgedRows as spec;
+ghost use Rattle.pg_write.specs.HeldRows.{stored_of};
 
+use crate::tables::HeldRow;
 use crate::values::{copy_at, key_of};
 use pg_expr::{eval_row, truth_row};
 use pg_meaning::{CExpr, CheckedChange, CheckedSet};
-use pg_value::{List, Row, Stored, TableNo, TableShape, Truth, Value, Write, copy_key};
+use pg_value::{List, Row, TableNo, TableShape, Truth, Value, Write, copy_key};
 use std::alloc::{AllocError, Global};
 
 /// The value that a tuple has for a column, if it has one.
@@ -133,25 +135,25 @@ fn updated(alloc: Global, sets: &[CheckedSet], row: &Row) -> Result<Row, AllocEr
 }
 
 /// The write of a row that is updated.
-fn update_write(alloc: Global, sets: &[CheckedSet], stored: &Stored) -> Result<Write, AllocError>
-    requires checked { Each (λ s. IsCheckedForRow stored.now.row s.value) sets.now }
-    ensures { IfOk result (λ w. w ≡ update_of sets.now stored.now) }
+fn update_write(alloc: Global, sets: &[CheckedSet], held: HeldRow<'_>) -> Result<Write, AllocError>
+    requires checked { Each (λ s. IsCheckedForRow held.row.now s.value) sets.now }
+    ensures { IfOk result (λ w. w ≡ update_of sets.now (stored_of held.entry)) }
 {
-    let row = updated(alloc, sets, &stored.row)?;
+    let row = updated(alloc, sets, held.row)?;
     Ok(Write {
-        table: stored.table,
-        key: copy_key(alloc, &stored.key)?,
+        table: held.table,
+        key: copy_key(alloc, held.key)?,
         row: Some(row),
     })
 }
 
 /// The write of a row that is deleted.
-fn delete_write(alloc: Global, stored: &Stored) -> Result<Write, AllocError>
-    ensures { IfOk result (λ w. w ≡ delete_of stored.now) }
+fn delete_write(alloc: Global, held: HeldRow<'_>) -> Result<Write, AllocError>
+    ensures { IfOk result (λ w. w ≡ delete_of (stored_of held.entry)) }
 {
     Ok(Write {
-        table: stored.table,
-        key: copy_key(alloc, &stored.key)?,
+        table: held.table,
+        key: copy_key(alloc, held.key)?,
         row: None,
     })
 }
@@ -160,23 +162,23 @@ fn delete_write(alloc: Global, stored: &Stored) -> Result<Write, AllocError>
 pub fn write_for(
     alloc: Global,
     change: &CheckedChange,
-    stored: &Stored,
+    held: HeldRow<'_>,
 ) -> Result<Write, AllocError>
-    requires checked { spec.IsCheckedFor change.now stored.now.row }
-    ensures { IfOk result (λ w. w ≡ spec.write_for change.now stored.now) }
+    requires checked { spec.IsCheckedFor change.now held.row.now }
+    ensures { IfOk result (λ w. w ≡ spec.write_for change.now (stored_of held.entry)) }
 {
     match change {
         CheckedChange::Update {
             table: _,
             sets,
             cond: _,
-        } => { update_write(alloc, sets.as_slice(), stored) }
+        } => { update_write(alloc, sets.as_slice(), held) }
         CheckedChange::Insert {
             table: _,
             columns: _,
             tuples: _,
         }
-        | CheckedChange::Delete { table: _, cond: _ } => delete_write(alloc, stored),
+        | CheckedChange::Delete { table: _, cond: _ } => delete_write(alloc, held),
     }
 }
 

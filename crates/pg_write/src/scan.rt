@@ -7,15 +7,16 @@ ghost use Rattle.pg_expr.specs.Conditions.{IsCheckedForRow};
 ghost use Rattle.pg_meaning.specs.Sound.Changes.{IsSoundFor, table_of};
 ghost use Rattle.pg_rules.specs.Changes.ChangeEffect.{context, proposed};
 ghost use Rattle.pg_write.specs.JudgedRows as spec;
+ghost use Rattle.pg_write.specs.HeldRows.{all_stored, stored_of};
 ghost use Rattle.pg_write.specs.KeyOfCondition.{key_in};
 
 use crate::judged::{Given, RowsSoFar};
 use crate::keyed::key_in;
 use crate::proposed::{takes, tuple_write, write_for};
-use crate::tables::TableRows;
+use crate::tables::{HeldRow, TableRows};
 use pg_meaning::{CExpr, CheckedChange};
 use pg_rules::RowFault;
-use pg_value::{Key, List, Row, Stored};
+use pg_value::{Key, List, Row};
 use std::alloc::{AllocError, Global};
 use std::slice;
 
@@ -59,20 +60,20 @@ impl<'a, T: TableRows> Given<'a, T> {
         alloc: Global,
         change: &CheckedChange,
         cond: &Option<CExpr>,
-        stored: &Stored,
+        held: HeldRow<'_>,
         so_far: &mut RowsSoFar,
     ) -> Result<Option<RowFault>, AllocError>
         requires few { length self.now.shape.now.columns < 2 ^ 32 }
         requires counted { spec.AreCounted self.now.limit self.now.writes.now.list so_far.old }
         requires cond { cond.now ≡ spec.condition_of change.now }
-        requires checked { spec.IsCheckedFor change.now stored.now.row }
-        ensures judged { IfOk result (λ f. spec.row_taken (context self.now.limit self.now.shape.now (T.tables self.now.tables.now) self.now.writes.now.list) self.now.insert change.now (spec.so_far so_far.old) stored.now ≡ spec.told f (spec.so_far so_far.new)) }
+        requires checked { spec.IsCheckedFor change.now held.row.now }
+        ensures judged { IfOk result (λ f. spec.row_taken (context self.now.limit self.now.shape.now (T.tables self.now.tables.now) self.now.writes.now.list) self.now.insert change.now (spec.so_far so_far.old) (stored_of held.entry) ≡ spec.told f (spec.so_far so_far.new)) }
         ensures counted { IfOk result (λ _. spec.AreCounted self.now.limit self.now.writes.now.list so_far.new) }
     {
-        if !takes(cond, &stored.row) {
+        if !takes(cond, held.row) {
             return Ok(None);
         }
-        let write = write_for(alloc, change, stored)?;
+        let write = write_for(alloc, change, held)?;
         self.take(so_far, write)
     }
 
@@ -82,18 +83,18 @@ impl<'a, T: TableRows> Given<'a, T> {
         alloc: Global,
         change: &CheckedChange,
         cond: &Option<CExpr>,
-        rows: &[Stored],
+        rows: &[HeldRow<'_>],
         so_far: &mut RowsSoFar,
     ) -> Result<Option<RowFault>, AllocError>
         requires few { length self.now.shape.now.columns < 2 ^ 32 }
         requires counted { spec.AreCounted self.now.limit self.now.writes.now.list so_far.old }
         requires cond { cond.now ≡ spec.condition_of change.now }
-        requires checked { spec.AreCheckedFor change.now rows.now }
-        ensures judged { IfOk result (λ f. spec.rows_taken (context self.now.limit self.now.shape.now (T.tables self.now.tables.now) self.now.writes.now.list) self.now.insert change.now (spec.so_far so_far.old) rows.now ≡ spec.told f (spec.so_far so_far.new)) }
+        requires checked { spec.AreCheckedFor change.now (all_stored rows.now) }
+        ensures judged { IfOk result (λ f. spec.rows_taken (context self.now.limit self.now.shape.now (T.tables self.now.tables.now) self.now.writes.now.list) self.now.insert change.now (spec.so_far so_far.old) (all_stored rows.now) ≡ spec.told f (spec.so_far so_far.new)) }
         ensures counted { IfOk result (λ _. spec.AreCounted self.now.limit self.now.writes.now.list so_far.new) }
     {
-        for stored in rows {
-            match self.take_row(alloc, change, cond, stored, so_far) {
+        for held in rows {
+            match self.take_row(alloc, change, cond, *held, so_far) {
                 Ok(None) => {}
                 Ok(Some(fault)) => return Ok(Some(fault)),
                 Err(failed) => return Err(failed),
@@ -117,17 +118,8 @@ impl<'a, T: TableRows> Given<'a, T> {
         ensures judged { IfOk result (λ f. spec.rows_taken (context self.now.limit self.now.shape.now (T.tables self.now.tables.now) self.now.writes.now.list) self.now.insert change.now (spec.so_far so_far.old) (held_in self.now.table (T.tables self.now.tables.now)) ≡ spec.told f (spec.so_far so_far.new)) }
         ensures counted { IfOk result (λ _. spec.AreCounted self.now.limit self.now.writes.now.list so_far.new) }
     {
-        let count = self.tables.count(self.table);
-        let mut at = 0;
-        'runs: while at < count {
-            let run = self.tables.run(self.table, at);
-            match self.take_rows(alloc, change, cond, run, so_far) {
-                Ok(None) => at += run.len(),
-                Ok(Some(fault)) => return Ok(Some(fault)),
-                Err(failed) => return Err(failed),
-            }
-        }
-        Ok(None)
+        let rows = self.tables.rows(alloc, self.table)?;
+        self.take_rows(alloc, change, cond, rows.as_slice(), so_far)
     }
 
     /// Judges the row of a key, which it takes where the condition is true of it.
@@ -147,7 +139,14 @@ impl<'a, T: TableRows> Given<'a, T> {
         ensures counted { IfOk result (λ _. spec.AreCounted self.now.limit self.now.writes.now.list so_far.new) }
     {
         match self.tables.row(self.table, key) {
-            Some(stored) => self.take_rows(alloc, change, cond, slice::from_ref(stored), so_far),
+            Some(row) => {
+                let held = HeldRow {
+                    table: self.table,
+                    key,
+                    row,
+                };
+                self.take_rows(alloc, change, cond, slice::from_ref(&held), so_far)
+            }
             None => Ok(None),
         }
     }

@@ -5,23 +5,21 @@ ghost use Rattle.std.specs.List.Sorted.{IsSorted};
 ghost use Rattle.pg_value.specs.Log.{after};
 ghost use Rattle.pg_value.specs.Orders.{row_order};
 ghost use Rattle.pg_meaning.specs.Answers.{Answer};
-ghost use Rattle.pg_meaning.specs.Outlines as outlines;
-ghost use Rattle.pg_meaning.specs.Sound.Patterns.{outline_of};
 ghost use Rattle.pg_meaning.specs.Sound.Queries.{IsSoundQuery};
 ghost use Rattle.pg_rules.specs.Queries.{query_fault};
 ghost use Rattle.pg_rules.specs.Queries.CheckedQueries.{checked_query};
 ghost use Rattle.pg_rules.specs.Written.{IsWrittenQuery};
 ghost use Rattle.pg_script.specs.Judged.{Asks};
 ghost use Rattle.pg_join.specs.Answered.{AreAnswered};
-ghost use Rattle.pg_language.specs.Language.{path_runs, runs};
+ghost use Rattle.pg_language.specs.Language.{keeps_all, path_runs, runs};
 ghost use Rattle.pgq.specs.Asking as spec;
 ghost use Rattle.pgq.specs.Engine.{IsReady, AnswersTo};
 
 use crate::engine::Engine;
 use crate::refusal::{not_yet, query_refusal, told};
-use pg_ast::{Arrow, Mode, Quant, Query};
+use pg_ast::{Arrow, Query, Selector};
 use pg_check::check;
-use pg_join::answer_in_turn;
+use pg_join::{answer_in_turn, walks_on};
 use pg_meaning::{CPart, CheckedColumn, CheckedPath, CheckedQuery};
 use pg_rules::accepted_queries_are_sound;
 use pg_script::Outcome;
@@ -29,59 +27,26 @@ use pg_value::{EdgeNo, List, Row, Text};
 use pg_view::{Lists, lists_are_tables};
 use std::alloc::{AllocError, Global};
 
-/// Whether a quantifier has no upper number.
-fn has_no_upper(quant: &Option<Quant>) -> bool
-    ensures { result ≡ outlines.has_no_upper quant.now }
+/// Whether a selector keeps all of the shortest.
+fn keeps_all(selector: Selector) -> bool
+    ensures { result ≡ keeps_all selector }
 {
-    match quant {
-        Some(quant) => quant.high.is_none(),
-        None => false,
+    match selector {
+        Selector::Every => false,
+        Selector::Any => false,
+        Selector::AnyShortest => false,
+        Selector::AllShortest => true,
     }
 }
 
-/// Whether a part may be repeated without end.
-fn may_go_on(part: &CPart) -> bool
-    ensures { result ≡ outlines.has_no_upper (outline_of part.now).quant }
-{
-    match part {
-        CPart::Node(_) => false,
-        CPart::Edge { quant, .. } => has_no_upper(quant),
-        CPart::Group { quant, .. } => has_no_upper(quant),
-    }
-}
-
-/// Whether one of some parts may be repeated without end.
-fn may_any_go_on(parts: &[CPart]) -> bool
-    ensures { result ≡ list_any (λ p. outlines.has_no_upper (outline_of p).quant) parts.now }
-{
-    for part in parts {
-        if may_go_on(part) {
-            return true;
-        }
-    }
-    false
-}
-
-/// Whether walks of parts may go on without end under a mode.
-fn walks_on(mode: Mode, parts: &[CPart]) -> bool
-    ensures { result ≡ outlines.walks_on mode (map outline_of parts.now) }
-{
-    match mode {
-        Mode::Walk => may_any_go_on(parts),
-        Mode::Trail => false,
-        Mode::Acyclic => false,
-        Mode::Simple => false,
-    }
-}
-
-/// Whether the walks of a path pattern end by themselves.
+/// Whether a path pattern is answered: its walks end by themselves, or it is not ALL SHORTEST.
 fn path_runs(path: &CheckedPath) -> bool
     ensures { result ≡ path_runs path.now }
 {
-    !walks_on(path.mode, path.parts.as_slice())
+    !(walks_on(path) && keeps_all(path.selector))
 }
 
-/// Whether those of each path pattern do.
+/// Whether each path pattern is.
 fn paths_run(paths: &[CheckedPath]) -> bool
     ensures { result ≡ list_all path_runs paths.now }
 {
@@ -213,7 +178,8 @@ fn answer_query(
     })
 }
 
-/// The answer of a query that is not refused: its rows, or NotYet where a path pattern's walks do not end by themselves.
+/// The answer of a query that is not refused: its rows, or NotYet where a path pattern asks ALL SHORTEST of walks that
+/// do not end by themselves.
 fn answer_checked(
     alloc: Global,
     engine: &Engine,
@@ -236,7 +202,7 @@ fn answer_checked(
 }
 
 /// The answer of a query that begins at a place, in a section: the place at which it is refused, or its rows. One that is not
-/// refused, and of which a path pattern's walks do not end by themselves, is NotYet where it begins. Only want of memory gives
+/// refused, and of which a path pattern asks ALL SHORTEST of walks that do not end by themselves, is NotYet where it begins. Only want of memory gives
 /// none.
 pub fn ask(
     alloc: Global,

@@ -11,6 +11,8 @@ use Rattle.pg_value.specs.Orders.{row_order}
 use Rattle.pg_value.specs.TablesLaws.{after_in_order, after_fits}
 use Rattle.pg_value.specs.Log.{after}
 use Rattle.pg_ast.specs.declared.pattern.Query.{Query}
+use Rattle.pg_ast.specs.declared.pattern.Selector.{Selector}
+use Rattle.pg_ast.specs.declared.pattern.Selector.TheVariants as selectors
 use Rattle.pg_meaning.specs.declared.checked.CheckedPath.{CheckedPath}
 use Rattle.pg_meaning.specs.declared.checked.CheckedQuery.{CheckedQuery}
 use Rattle.pg_meaning.specs.Answers.{Answer, column_names}
@@ -31,8 +33,9 @@ use Rattle.pg_script.specs.declared.outcome.Outcome.TheVariants.{Rows, AtByte}
 use Rattle.pg_script.specs.Judged.{Asks}
 use Rattle.pg_check.specs.Resolved.{IsFault}
 use Rattle.pg_view.specs.Lists.{joined, AreLists, ListsAreTables}
+use Rattle.pg_join.specs.Answered as asked
 use Rattle.pg_join.specs.Answered.{IsAnswered, AreAnswered}
-use Rattle.pg_language.specs.Language.{query_refusal, path_runs, runs}
+use Rattle.pg_language.specs.Language.{query_refusal, keeps_all, path_runs, runs}
 use Rattle.pgq.specs.declared.engine.Engine.{Engine}
 use Rattle.pgq.specs.Refusals.{IsTold}
 use Rattle.pgq.specs.Engine.{IsReady, Answers, AnswersTo}
@@ -47,12 +50,14 @@ lists_joined e ready law = law.tables e.tables.items (after e.log (length e.log)
 
 -- QUERIES THAT RUN
 
-pub any_map : {X Y : Type 0} (f : Y → Bool) (g : X → Y) (xs : List X) → list_any f (map g xs) ≡ list_any (λ x. f (g x)) xs
-any_map f g [] = refl
-any_map f g (x ∷ xs) = ap (λ b. f (g x) || b) (any_map f g xs)
+same_keeps : (s : Selector) → asked.keeps_all s ≡ keeps_all s
+same_keeps selectors.Every = refl
+same_keeps selectors.Any = refl
+same_keeps selectors.AnyShortest = refl
+same_keeps selectors.AllShortest = refl
 
 path_answered : (p : CheckedPath) → path_runs p ≡ true → IsAnswered p
-path_answered p h = go (walks_on p.mode (outlines p)) h
+path_answered p h = ap (λ b. walks_on p.mode (outlines p) && b) (same_keeps p.selector) ∙ go (walks_on p.mode (outlines p) && keeps_all p.selector) h
   where
     go : (b : Bool) → not b ≡ true → b ≡ false
     go true h = absurd cc

@@ -21,11 +21,11 @@ added n are elem more (Err x) p h = h
 
 pub invariant_of-self : goal.invariant_of-self
 invariant_of-self c =
-    let n : Numbers = record { start = c.self.inside.start.now; elems = c.self.inside.elems.keys; walks = c.self.inside.walks; names = c.self.inside.names } in
-    stays n c.self.invariant c.args.elem c.insert_elem.new.elems.keys c.insert_elem.result c.insert_elem.ensures.put c.insert_elem.ensures.err
+    let n : Numbers = record { start = c.self.inside.start.now; elems = c.self.inside.elems; walks = c.self.inside.walks; names = c.self.inside.names } in
+    stays n c.self.invariant c.args.elem c.insert_elem.new.elems c.insert_elem.result c.insert_elem.ensures.put c.insert_elem.ensures.err
 
 pub returns-clause-added : goal.returns-clause-added
 returns-clause-added c =
-    let n : Numbers = record { start = c.self.inside.start.now; elems = c.self.inside.elems.keys; walks = c.self.inside.walks; names = c.self.inside.names } in
-    subst (λ (m : Numbers). IfOk c.insert_elem.result (λ k. IsNumbered m c.args.elem k (with_elems n c.insert_elem.new.elems.keys))) c.self.view_is
-    (added n c.self.invariant c.args.elem c.insert_elem.new.elems.keys c.insert_elem.result c.insert_elem.ensures.put c.insert_elem.ensures.place)
+    let n : Numbers = record { start = c.self.inside.start.now; elems = c.self.inside.elems; walks = c.self.inside.walks; names = c.self.inside.names } in
+    subst (λ (m : Numbers). IfOk c.insert_elem.result (λ k. IsNumbered m c.args.elem k (with_elems n c.insert_elem.new.elems))) c.self.view_is
+    (added n c.self.invariant c.args.elem c.insert_elem.new.elems c.insert_elem.result c.insert_elem.ensures.put c.insert_elem.ensures.place)
