@@ -1,6 +1,7 @@
 """Queries over walks of every length, under WALK. On small graphs `patterns.py` finds the rows by going through the walks; on large ones they
-follow from the shape of the graph. KEPT has the selectors that are answered."""
+follow from the shape of the graph. Without a selector such a query is refused."""
 import random
+from math import comb
 from matches import ENDS, SELECTORS, asked, firms, people, random_condition, shown_by
 from model import Element, Script
 from model import edge as edge_table
@@ -8,7 +9,7 @@ from patterns import Filler, Path, Query, ask, edge, group, node
 from running import said
 from tables import ints
 
-KEPT = SELECTORS[1:3]
+KEPT = SELECTORS[1:]
 
 
 def star(low=0, arrow="->", variable="e", where=None):
@@ -55,6 +56,16 @@ def split_scripts():
         query = Query([walk(star(variable=None), selector=selector)], ENDS)
         text = query.text(graph).replace("->*", "->*()" * 499 + "->*")
         yield f"500 stars without names under {selector}", ask(script.begin("a"), graph, query, text)
+    # a walk that stars with names can share out in several ways is a binding for each, and one binding where they have none
+    script = Script()
+    graph = people(script)
+    script.begin("a")
+    named = [(("COUNT OF", "e"), "M"), (("COUNT OF", "f"), "N")]
+    for low, high in ((0, 0), (0, 1), (1, 1)):
+        ask(script, graph, Query([walk(star(low), node(), star(high, variable="f"), selector="ALL SHORTEST")], ENDS + named))
+        ask(script, graph, Query([walk(star(low, variable=None), node(), star(high, variable=None), selector="ALL SHORTEST")], ENDS))
+    ask(script, graph, Query([walk(star(0), node("m"), star(0, variable="f"), selector="ALL SHORTEST")], ENDS + [("m.id", "M")]))
+    yield "ways to share a walk out under ALL SHORTEST", script
 
 
 def filter_scripts():
@@ -127,6 +138,8 @@ def grid_scripts():
     answered(script, f"ANY SHORTEST (x WHERE x.id = 0)-[e]->*(y WHERE y.id = {last})", "y.id, COUNT(e) AS n", ["ID", "N"], corner)
     answered(script, f"ANY (x WHERE x.id = 0)-[e]->*(y WHERE y.id = {last})", "y.id", ["ID"], [[last]])
     answered(script, "ANY SHORTEST (x WHERE x.id = 0)-[e]->*(y)", "y.id, COUNT(e) AS n", ["ID", "N"], [[number[i, j], i + j] for i, j in cells])
+    answered(script, f"ALL SHORTEST (x WHERE x.id = 0)-[e]->*(y WHERE y.id = {last})", "y.id, COUNT(e) AS n", ["ID", "N"], corner * comb(2 * side - 2, side - 1))
+    answered(script, "ALL SHORTEST (x WHERE x.id = 0)-[e]->*(y)", "y.id, COUNT(e) AS n", ["ID", "N"], [[number[i, j], i + j] for i, j in cells for _ in range(comb(i + j, i))])
     yield "a grid from corner to corner", script
 
 
@@ -136,6 +149,10 @@ def dead_end_scripts():
     edges = [edge for i in range(pairs) for edge in ((3 * i, 3 * i + 1), (3 * i, 3 * i + 2), (3 * i + 1, 3 * i + 3), (3 * i + 2, 3 * i + 3))]
     script, _ = large(range(3 * pairs + 2), edges)
     answered(script, f"ANY SHORTEST (x WHERE x.id = 0)-[e]->*(y WHERE y.id = {3 * pairs})", "y.id, COUNT(e) AS n", ["ID", "N"], [[3 * pairs, 2 * pairs]])
+    # before the last door there is one vertex more, to which one walk leads
+    script, _ = large(range(3 * pairs + 2), edges + [(0, 3 * pairs + 1)])
+    answered(script, f"ALL SHORTEST (x WHERE x.id = 0)-[e]->*(y WHERE y.id = {3 * pairs + 1})", "y.id, COUNT(e) AS n", ["ID", "N"], [[3 * pairs + 1, 1]])
+    answered(script, "ALL SHORTEST (x WHERE x.id = 0)-[e]->{2}(m)-[f]->*(y WHERE y.id = 6)", "y.id, COUNT(f) AS n", ["ID", "N"], [[6, 2]] * 4)
     yield "walks that are too many to go through", script
 
 
@@ -204,7 +221,7 @@ def random_query(seed):
         else:
             parts, columns = [star(low, arrow, where=where), node("m"), edge(draw.choice(["->", "<-"]), "f")], [(("COUNT OF", "e"), "N"), ("m.id", "M"), ("f.id", "F")]
         selector = draw.choice(KEPT)
-        shown = columns[:1] if selector == "ANY SHORTEST" and kind < 2 else []
+        shown = columns if selector == "ALL SHORTEST" else columns[:1] if selector == "ANY SHORTEST" and kind < 2 else []
         last = draw.choice(["y", "y", "x"])
         path = Path(node("x"), *parts, node(last), selector=selector)
         paths, ends = [path], ENDS if last == "y" else ENDS[:1]

@@ -341,10 +341,14 @@ module _ {B R : Type 0} (base : B → BaseOf) (run : R → RunOf) where
   fold_extends v shapes b d g e eb x = subst (λ (s : Shapes). Extends s shapes) (sym (ap (λ (y : B). (base y).shapes) eb ∙ ap (λ (y : BaseOf). y.shapes) (current_base v d g e).1)) x
 
   pub fold_same : (v : Versioned B R) (b d : B) → Good v → base_at v.held.current v.held.bases ≡ Some d → b ≡ d → Extends (base b).shapes v.shapes
-  fold_same v b d g e eb = fold_extends v v.shapes b d g e eb (λ t shape h. h)
+  fold_same v b d g e eb = fold_extends v v.shapes b d g e eb (record { tables = λ t shape h. h; edges = λ t shape h. h })
+
+  -- what bases are made for holds of the current shapes
+  pub shapes_sound : (sound : Shapes → Type 0) (v : Versioned B R) (b d : B) → Good v → base_at v.held.current v.held.bases ≡ Some d → b ≡ d → sound (base b).shapes → sound v.shapes
+  shapes_sound sound v b d g e eb h = subst sound (ap (λ (y : B). (base y).shapes) eb ∙ ap (λ (y : BaseOf). y.shapes) (current_base v d g e).1) h
 
   fits_more : (old new : Shapes) → Extends old new → (ws : List Write) → FitWrites old ws → FitWrites new ws
-  fits_more old new x ws f = each_map (FitsWrite old) (FitsWrite new) (λ w h. (h.0, x w.table.0 h.0 h.1, h.2, h.3)) ws f
+  fits_more old new x ws f = each_map (FitsWrite old) (FitsWrite new) (λ w h. (h.0, x.tables w.table.0 h.0 h.1, h.2, h.3)) ws f
 
   -- all is folded to one base at the head, under other shapes, and no seat has a pin
   pub redefined_good : (v w : Versioned B R) (shapes : Shapes) (b d new folded : B) (h : Held B) (rs qs none : List R) (at seats : ℕ) → v ≡ w → Good v → Extends w.shapes shapes → at ≡ length v.log → base_at v.held.current v.held.bases ≡ Some d → b ≡ d → rs ≡ v.runs

@@ -4,6 +4,7 @@ use Rattle.std.specs.declared.option.Option.{Option}
 use Rattle.std.specs.declared.option.Option.TheVariants.{Some, None}
 use Rattle.pg_keyed.specs.Lists.{Each}
 use Rattle.pg_value.specs.declared.shape.TableShape.{TableShape}
+use Rattle.pg_value.specs.declared.shape.EdgeShape.{EdgeShape}
 use Rattle.pg_value.specs.declared.shape.Shapes.{Shapes}
 use Rattle.pg_value.specs.declared.write.Write.{Write}
 use Rattle.pg_value.specs.declared.write.Commit.{Commit}
@@ -92,9 +93,10 @@ pub record CanFold (at : ℕ) (b : BaseOf) (runs : List RunOf) : Type 0 where
   pub chain : Chain b.shapes b.version at runs
   pub few : length runs ≤ most_runs
 
--- each table of the old shapes is one of the new
-abbrev pub Extends : Shapes → Shapes → Type 0
-Extends old new = (t : ℕ) (shape : TableShape) → slice_get old.tables t ≡ Some shape → slice_get new.tables t ≡ Some shape
+-- each table and each edge table of the old shapes is one of the new, by the same number
+pub record Extends (old new : Shapes) : Type 0 where
+  pub tables : (t : ℕ) (shape : TableShape) → slice_get old.tables t ≡ Some shape → slice_get new.tables t ≡ Some shape
+  pub edges : (e : ℕ) (shape : EdgeShape) → slice_get old.edges e ≡ Some shape → slice_get new.edges e ≡ Some shape
 
 -- the parts of a snapshot stand for version `at` of a log
 pub record StandsFor {B R : Type 0} (base : B → BaseOf) (run : R → RunOf) (shapes : Shapes) (log : List Commit) (at : ℕ) (p : Parts B R) : Type 0 where

@@ -1,5 +1,6 @@
 //! How versions are kept: what a base and a run have to offer.
 ghost use Rattle.std.specs.Prelude.{◌≡◌, ◌≤◌, ◌-◌, [], map, IfOk};
+ghost use Rattle.pg_value.specs.declared.shape.Shapes.{Shapes};
 ghost use Rattle.pg_value.specs.Tables.{FitWrites};
 ghost use Rattle.pg_core.specs.Versions.{BaseOf, RunOf, CanFold, Extends, joined, put_runs};
 
@@ -40,8 +41,12 @@ pub trait Run: Drop {
 pub trait Base<R: Run>: Drop {
     ghost base: { Self → BaseOf };
 
+    /// Shapes for which bases may be made.
+    ghost sound: { Shapes → Type 0 };
+
     /// The base of version 0, which has no rows. Only want of memory refuses it.
     fn first(alloc: Global, shapes: &Shared<Shapes>) -> Result<Self, AllocError>
+        requires { sound shapes.now }
         ensures { IfOk result (λ b. base b ≡ record { shapes = shapes.now; version = 0; tables = [] }) };
 
     /// A base and the runs over it, newest first, as one base of version `at`, for shapes that extend the base's own. Only want of
@@ -55,5 +60,10 @@ pub trait Base<R: Run>: Drop {
     ) -> Result<Self, AllocError>
         requires fold { CanFold at (base old.now) (map R.run runs.now) }
         requires extends { Extends (base old.now).shapes shapes.now }
+        requires sound { sound shapes.now }
         ensures { IfOk result (λ b. base b ≡ record { shapes = shapes.now; version = at; tables = put_runs (base old.now).tables (map R.run runs.now) }) };
+
+    /// That the base's shapes are such as bases may be made for. It does nothing.
+    fn well_made(&self)
+        ensures { sound (base self.now).shapes };
 }

@@ -199,6 +199,7 @@ pub fn replay<B: Base<R>, R: Run>(
     limit: u64,
     events: List<Event>,
 ) -> Result<(State<B, R>, List<Reply>), AllocError>
+    requires { B.sound shapes }
     ensures shapes { IfOk result (λ r. (r.0.shapes ≡ shapes) × (r.0.limit ≡ limit)) }
     ensures replays { IfOk result (λ r. Replays shapes limit (first_core seats seats) events r.1 r.0.core) }
 {

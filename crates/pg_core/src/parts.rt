@@ -45,10 +45,9 @@ impl<B: Base<R>, R: Run> Job<B, R> {
             runs,
             at,
         } = &self.parts;
-        Shared::new(
-            alloc,
-            B::fold(alloc, base.get(), runs.as_slice(), *at, shapes)?,
-        )
+        let old = base.get();
+        old.well_made();
+        Shared::new(alloc, B::fold(alloc, old, runs.as_slice(), *at, shapes)?)
     }
 }
 

@@ -1,5 +1,6 @@
 //! The core as one value: each call is one event of it.
-ghost use Rattle.std.specs.Prelude.{◌≡◌, ◌<◌, ◌+◌, ◌^◌, length, get_or, replicate, slice_set, true, false, is_some, not, IfOk, OnOk, OnErr, Some, None};
+ghost use Rattle.std.specs.Prelude.{◌≡◌, ◌≤◌, ◌<◌, ◌+◌, ◌^◌, length, get_or, replicate, slice_set, true, false, is_some, not, IfOk, OnOk, OnErr, Some, None};
+ghost use Rattle.pg_log.specs.Logged.{Changed};
 ghost use Rattle.pg_core.specs.declared.event.Event.TheVariants as events;
 ghost use Rattle.pg_core.specs.Core.{CanCome, CanCommit, IsNotBuilding, after_abandon, after_mark, after_pin, after_redefine, after_release, first_core, pin_of, seen_peak};
 ghost use Rattle.pg_core.specs.Versions.{Extends, IsBaseOf, StandsFor};
@@ -47,8 +48,8 @@ fn conflict_at(alloc: Global, write: &Write, at: u64) -> CommitFault
 }
 
 impl<B: Base<R>, R: Run> State<B, R> {
-    /// An empty log, which may hold at most `limit` writes; so many seats, none of which has a pin; and places for so many
-    /// sections, of which nothing is counted. Only want of memory refuses it.
+    /// An empty log, which may hold at most `limit` writes, and tables of these shapes; so many seats, none of which has a pin;
+    /// and places for so many sections, of which nothing is counted. Only want of memory refuses it.
     pub fn new(
         alloc: Global,
         shapes: Shared<Shapes>,
@@ -56,6 +57,7 @@ impl<B: Base<R>, R: Run> State<B, R> {
         sections: u32,
         limit: u64,
     ) -> Result<State<B, R>, AllocError>
+        requires { B.sound shapes }
         ensures { IfOk result (λ s. s ≡ record { core = first_core seats sections; shapes = shapes; limit = limit }) }
     {
         let versions = Versions::new(alloc, shapes, seats, limit)?;
@@ -160,6 +162,7 @@ impl<B: Base<R>, R: Run> State<B, R> {
         requires free { self.old.core.pins ≡ replicate seats None }
         requires closed { self.old.core.build ≡ None }
         requires extends { Extends self.old.shapes shapes }
+        requires sound { B.sound shapes }
         ensures ok { OnOk result (self.new ≡ record self.old { core = after_redefine self.old.core; shapes = shapes }) }
         ensures err { OnErr result (self.new ≡ self.old) }
     {
@@ -201,6 +204,15 @@ impl<B: Base<R>, R: Run> State<B, R> {
         released
     }
 
+    /// The place of the first of these writes whose key a commit after version `from` wrote, and the number of the first such
+    /// commit; None exactly where there is none.
+    fn changed_since(&self, from: u64, writes: &Writes) -> Option<(usize, u64)>
+        requires { from ≤ length self.now.core.log }
+        ensures { Changed self.now.core.log from writes.now.list result }
+    {
+        self.versions.log().changed_since(from, writes)
+    }
+
     /// Appends a commit of these writes by a seat that had read version `from`, and answers its number. A conflict is sought
     /// first; then the log may be full; then memory may be wanted. Whatever refuses it, everything is as before.
     pub fn commit(
@@ -213,11 +225,10 @@ impl<B: Base<R>, R: Run> State<B, R> {
         requires { CanCommit self.old.shapes self.old.core seat from writes.list }
         ensures { Commits self.old self.new (record { session = seat; from = from; writes = writes }) result }
     {
-        let log = self.versions.log();
-        if let Some((place, at)) = log.changed_since(from, &writes) {
+        if let Some((place, at)) = self.changed_since(from, &writes) {
             return Err(conflict_at(alloc, writes.at(place as u64), at));
         }
-        let held = log.held();
+        let held = self.versions.log().held();
         if self.versions.limit() - held < writes.len() {
             return Err(CommitFault::LogFull { held });
         }

@@ -68,6 +68,7 @@ impl<B: Base<R>, R: Run> Versions<B, R> {
         seats: u32,
         limit: u64,
     ) -> Result<Versions<B, R>, AllocError>
+        requires { B.sound shapes }
         ensures { IfOk result (AreFirst shapes limit seats) }
     {
         let base = Shared::new(alloc, B::first(alloc, &shapes)?)?;
@@ -203,7 +204,9 @@ impl<B: Base<R>, R: Run> Versions<B, R> {
                 readied,
             });
         }
-        let folded = B::fold(alloc, base.get(), self.runs.as_slice(), at, &self.shapes)?;
+        let current = base.get();
+        current.well_made();
+        let folded = B::fold(alloc, current, self.runs.as_slice(), at, &self.shapes)?;
         Ok(Grown {
             base: Some(Shared::new(alloc, folded)?),
             runs: alone(alloc, run)?,
@@ -247,6 +250,7 @@ impl<B: Base<R>, R: Run> Versions<B, R> {
         requires free { self.old.held.pins ≡ replicate seats None }
         requires closed { self.old.building ≡ None }
         requires extends { Extends self.old.shapes shapes }
+        requires sound { B.sound shapes }
         ensures ok { OnOk result (AreRedefined shapes self.old self.new) }
         ensures err { OnErr result (self.new ≡ self.old) }
     {

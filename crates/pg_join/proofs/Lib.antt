@@ -10,3 +10,5 @@ mod Results
 mod Lookups
 mod Steps
 mod BoundRows
+pub mod Crossing
+pub mod Jobs

@@ -16,7 +16,6 @@ use Rattle.pg_keyed.specs.Lists.{Each}
 use Rattle.pg_meaning.specs.Outlines.{is_walk, is_every, walks_on}
 use Rattle.pg_meaning.specs.Sound.Patterns.{IsSoundPath, outlines}
 use Rattle.pg_short.specs.Selections.{AreSelected, IsAllowedFrom}
-use Rattle.pg_join.specs.Answered.{keeps_all, IsAnswered}
 use Rattle.pg_join.specs.Selecting.{end_of, HasEnd, IsLeastIn, AreLeast, AreFirsts, AreKept, AreKeptFrom, AreStarts, IsKept}
 use Rattle.pg_join.proofs.Preimages.{preimage, image_of}
 
@@ -53,20 +52,16 @@ least_have_ends all (b ∷ kept) h e = (one all (h b (in_here b kept b refl)) e,
 
 -- WALKS OF EVERY LENGTH
 
--- where neither every binding nor each of the shortest is kept, and more than one of any length, it is one of the shortest
-pub only_any_shortest : (s : Selector) → (s ≡ Any → ⊥) → is_every s ≡ false → keeps_all s ≡ false → s ≡ AnyShortest
-only_any_shortest Every any every all = absurd (cc)
-only_any_shortest Any any every all = absurd (any refl)
-only_any_shortest AnyShortest any every all = refl
-only_any_shortest AllShortest any every all = absurd (cc)
+-- where not every binding is kept, nor one of any length, nor one of the shortest, it is each of the shortest
+pub only_all_shortest : (s : Selector) → (s ≡ Any → ⊥) → (s ≡ AnyShortest → ⊥) → is_every s ≡ false → s ≡ AllShortest
+only_all_shortest Every any one every = absurd (cc)
+only_all_shortest Any any one every = absurd (any refl)
+only_all_shortest AnyShortest any one every = absurd (one refl)
+only_all_shortest AllShortest any one every = refl
 
 left_true : (a b : Bool) → (a && b) ≡ true → a ≡ true
 left_true true b h = refl
 left_true false b h = absurd (cc)
-
-right_false : (a b : Bool) → a ≡ true → (a && b) ≡ false → b ≡ false
-right_false true b e h = h
-right_false false b e h = absurd (cc)
 
 left_false : (a b : Bool) → b ≡ true → (a && b) ≡ false → a ≡ false
 left_false true true e h = absurd (cc)
@@ -76,8 +71,8 @@ left_false false b e h = refl
 pub endless_walk : (p : CheckedPath) → walks_on p.mode (outlines p) ≡ true → is_walk p.mode ≡ true
 endless_walk p h = left_true (is_walk p.mode) _ h
 
-pub kept_one : (shapes : Shapes) (p : CheckedPath) → IsSoundPath shapes p → walks_on p.mode (outlines p) ≡ true → IsAnswered p → (p.selector ≡ Any → ⊥) → p.selector ≡ AnyShortest
-kept_one shapes p sound endless answered any = only_any_shortest p.selector any (left_false (is_every p.selector) (walks_on p.mode (outlines p)) endless sound.bounded) (right_false (walks_on p.mode (outlines p)) (keeps_all p.selector) endless answered)
+pub kept_all : (shapes : Shapes) (p : CheckedPath) → IsSoundPath shapes p → walks_on p.mode (outlines p) ≡ true → (p.selector ≡ Any → ⊥) → (p.selector ≡ AnyShortest → ⊥) → p.selector ≡ AllShortest
+kept_all shapes p sound endless any one = only_all_shortest p.selector any one (left_false (is_every p.selector) (walks_on p.mode (outlines p)) endless sound.bounded)
 
 -- what a shortest search keeps is what is kept from its start
 pub kept_selected : (s : Selector) (shapes : Shapes) (tables : Tables) (p : CheckedPath) (start : ElemId) → p.selector ≡ s → (kept : List PathBinding) → AreSelected s shapes tables p start kept → AreKeptFrom shapes tables p start kept

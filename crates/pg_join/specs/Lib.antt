@@ -1,5 +1,4 @@
 -- Which queries are answered, and how their answers are made.
-pub mod Answered
 pub mod Selecting
 pub mod Ends
 pub mod Joining

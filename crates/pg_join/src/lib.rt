@@ -4,6 +4,7 @@
 mod answering;
 mod elements;
 mod endless;
+mod job;
 mod joining;
 mod lists;
 mod rows;
@@ -12,5 +13,5 @@ mod selecting;
 mod slots;
 mod starts;
 
-pub use answering::answer_in_turn;
+pub use answering::{answer, answer_in_turn};
 pub use endless::walks_on;

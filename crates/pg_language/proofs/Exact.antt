@@ -1,5 +1,5 @@
 -- The language of scripts is exact: each of its judgements says one thing.
-use Rattle.std.proofs.Common.{◌≡◌, ℕ, Bool, true, false, List, inl, inr, sym, ap, ◌∙◌, subst}
+use Rattle.std.proofs.Common.{◌≡◌, ℕ, true, List, sym, ap, ◌∙◌, subst}
 use Rattle.std.specs.declared.option.Option.{Option}
 use Rattle.std.specs.declared.option.Option.TheVariants.{Some, None}
 use Rattle.std.proofs.lemmas.Option.{same_Some}
@@ -8,6 +8,7 @@ use Rattle.pg_lex.specs.Tokens.{Tokens}
 use Rattle.pg_value.specs.declared.write.Write.{Write}
 use Rattle.pg_value.specs.Tables.{Tables}
 use Rattle.pg_ast.specs.declared.define.Define.{Define}
+use Rattle.pg_ast.specs.declared.pattern.Query.{Query}
 use Rattle.pg_meaning.specs.declared.checked.CheckedChange.{CheckedChange}
 use Rattle.pg_meaning.specs.declared.checked.CheckedQuery.{CheckedQuery}
 use Rattle.pg_meaning.specs.OneAnswer.{has_one_answer, AnswersAreOne}
@@ -15,6 +16,8 @@ use Rattle.pg_rules.specs.Catalog.{Defined}
 use Rattle.pg_rules.specs.Catalog.Shapes.{shapes}
 use Rattle.pg_rules.specs.Definitions.{define_fault, with_definition}
 use Rattle.pg_rules.specs.Changes.{Change, change_fault, resolved_change}
+use Rattle.pg_rules.specs.Queries.{query_fault}
+use Rattle.pg_rules.specs.Queries.CheckedQueries.{checked_query}
 use Rattle.pg_rules.specs.Changes.ChangeEffect.{Context, context}
 use Rattle.pg_meaning.specs.Sound.Changes.{table_of}
 use Rattle.pg_script.specs.declared.script.Item.{Item}
@@ -27,7 +30,7 @@ use Rattle.pg_sql.specs.declared.parsed.Parsed.{Parsed}
 use Rattle.pg_sql.specs.declared.parsed.Parsed.TheVariants.{Statement, Fault}
 use Rattle.pg_sql.specs.Parsed.{IsParsed}
 use Rattle.pg_sql.specs.Answers.{OneTree}
-use Rattle.pg_language.specs.Language.{reading_of, reads, name_of, define_refusal, defines, resolve_refusal, resolves, most_transaction_writes, refusal_of, IsEffect, affects, checks, answers, language, Asked, query_refusal, runs}
+use Rattle.pg_language.specs.Language.{reading_of, reads, name_of, define_refusal, defines, resolve_refusal, resolves, most_transaction_writes, refusal_of, IsEffect, affects, checks, answers, language, query_refusal}
 use Rattle.pg_language.proofs.Firsts.{none_some, no_fault_in, one_fault, not_done, one_faulty_row}
 
 -- RULINGS
@@ -74,26 +77,15 @@ one_change d c r s a b =
     rules : (t : Ruling CheckedChange) → resolves d c t → Rules (change_fault d.0 c) resolve_refusal (IsResolved d c) t
     rules t h = by_rules (change_fault d.0 c) resolve_refusal (IsResolved d c) (resolves d c) (λ kind at k. k) (λ y k. k) t h
 
-yes_no : (b : Bool) → b ≡ true → b ≡ false → ⊥
-yes_no b h k = cc
+abbrev IsChecked : Defined → Query → CheckedQuery → Type 0
+IsChecked d q y = y ≡ checked_query d q
 
--- a query that is refused is so for one fault; one that is not is run or NotYet
-one_query : (d : Defined) (q : Asked) (r s : Ruling CheckedQuery) → checks d q r → checks d q s → r ≡ s
-one_query d (q, begin) (Faulty kind at) (Faulty kind' at') (inl (f, p, u)) (inl (g, v, w)) =
-    let h : f ≡ g = same_Some f g (sym p ∙ v) in
-    let k : (kind, at) ≡ (kind', at') = same_Some (kind, at) (kind', at') (sym u ∙ ap query_refusal h ∙ w) in
-    λ i. Faulty (k i).0 (k i).1
-one_query d (q, begin) (Faulty kind at) (Faulty kind' at') (inl (f, p, u)) (inr (none, _, _, _)) = absurd (none_some f (sym none ∙ p))
-one_query d (q, begin) (Faulty kind at) (Faulty kind' at') (inr (none, _, _, _)) (inl (f, p, u)) = absurd (none_some f (sym none ∙ p))
-one_query d (q, begin) (Faulty kind at) (Faulty kind' at') (inr (_, _, is, place)) (inr (_, _, is', place')) =
-    let k : kind ≡ kind' = is ∙ sym is' in
-    let h : at ≡ at' = place ∙ sym place' in
-    λ i. Faulty (k i) (h i)
-one_query d (q, begin) (Faulty kind at) (Fine y) (inl (f, p, u)) (none, _, _) = absurd (none_some f (sym none ∙ p))
-one_query d (q, begin) (Faulty kind at) (Fine y) (inr (_, other, _, _)) (_, is, run) = absurd (yes_no (runs y) run (ap runs is ∙ other))
-one_query d (q, begin) (Fine x) (Faulty kind at) (none, _, _) (inl (f, p, u)) = absurd (none_some f (sym none ∙ p))
-one_query d (q, begin) (Fine x) (Faulty kind at) (_, is, run) (inr (_, other, _, _)) = absurd (yes_no (runs x) run (ap runs is ∙ other))
-one_query d (q, begin) (Fine x) (Fine y) (_, is, _) (_, is', _) = ap Fine (is ∙ sym is')
+one_query : (d : Defined) (q : Query) (r s : Ruling CheckedQuery) → checks d q r → checks d q s → r ≡ s
+one_query d q r s a b =
+    one_ruling (query_fault d q) query_refusal (IsChecked d q) (λ x y p q. p ∙ sym q) r s (rules r a) (rules s b)
+  where
+    rules : (t : Ruling CheckedQuery) → checks d q t → Rules (query_fault d q) query_refusal (IsChecked d q) t
+    rules t h = by_rules (query_fault d q) query_refusal (IsChecked d q) (checks d q) (λ kind at k. k) (λ y k. k) t h
 
 -- EFFECTS
 
@@ -129,7 +121,7 @@ one_parsed one tokens (Fault at) (Fault at') f g = ap Fault (one_fault tokens at
 abbrev pub OneTokenList : Type 0
 OneTokenList = (at : ℕ) (text : List ℕ) (ts us : List Token) → Tokens at text ts → Tokens at text us → ts ≡ us
 
-one_reading : OneTokenList → OneTree → (script : Script) (item : Item) (r s : Reading Define Change Asked) → reads script item r → reads script item s → r ≡ s
+one_reading : OneTokenList → OneTree → (script : Script) (item : Item) (r s : Reading Define Change Query) → reads script item r → reads script item s → r ≡ s
 one_reading lists trees script (Sql from to) r s (p, (ts, tokens, is), e) (p', (ts', tokens', is'), e') =
     let same : ts ≡ ts' = lists from _ ts ts' tokens tokens' in
     e ∙ ap reading_of (one_parsed trees ts p p' is (subst (λ l. IsParsed l p') (sym same) is')) ∙ sym e'

@@ -1,9 +1,8 @@
 -- What the statements that run mean: how they are read, and what the catalog, a change and a query make of them.
-use Rattle.std.specs.Prelude.{ℕ, ◌≡◌, ◌⊎◌, ◌&&◌, Bool, true, false, not, List, [], map, slice_get, get_or}
+use Rattle.std.specs.Prelude.{ℕ, ◌≡◌, List, [], map, slice_get, get_or}
 use Rattle.std.specs.declared.option.Option.{Option}
 use Rattle.std.specs.declared.option.Option.TheVariants.{Some, None}
 use Rattle.std.specs.Option.{unwrap_or}
-use Rattle.std.specs.List.{list_all}
 use Rattle.std.specs.List.Sorted.{IsSorted}
 use Rattle.pg_value.specs.declared.shape.TableNo.{TableNo}
 use Rattle.pg_value.specs.declared.shape.TableShape.{TableShape}
@@ -15,14 +14,9 @@ use Rattle.pg_ast.specs.declared.define.Define.TheVariants as definitions
 use Rattle.pg_ast.specs.declared.statement.Statement.{Statement}
 use Rattle.pg_ast.specs.declared.statement.Statement.TheVariants as statements
 use Rattle.pg_ast.specs.declared.pattern.Query.{Query}
-use Rattle.pg_ast.specs.declared.pattern.Selector.{Selector}
-use Rattle.pg_ast.specs.declared.pattern.Selector.TheVariants as selectors
 use Rattle.pg_meaning.specs.declared.checked.CheckedChange.{CheckedChange}
-use Rattle.pg_meaning.specs.declared.checked.CheckedPath.{CheckedPath}
 use Rattle.pg_meaning.specs.declared.checked.CheckedQuery.{CheckedQuery}
-use Rattle.pg_meaning.specs.Outlines.{walks_on}
 use Rattle.pg_meaning.specs.Sound.Changes.{table_of}
-use Rattle.pg_meaning.specs.Sound.Patterns.{outlines}
 use Rattle.pg_rules.specs.declared.fault.DefineFault.{DefineFault}
 use Rattle.pg_rules.specs.declared.fault.DefineFault.TheVariants as define
 use Rattle.pg_rules.specs.declared.fault.ResolveFault.{ResolveFault}
@@ -54,22 +48,18 @@ use Rattle.pg_rules.specs.Queries.CheckedQueries.{checked_query}
 
 -- READING
 
--- a query, and the place at which it begins
-abbrev pub Asked : Type 0
-Asked = Query × ℕ
-
 -- what a statement says, which begins at a place; one that is not run yet is refused there
-abbrev pub says : ℕ → Statement → Reading Define Change Asked
+abbrev pub says : ℕ → Statement → Reading Define Change Query
 says at (statements.Define d) = Defines d at
 says at (statements.Insert i) = Changes (OfInsert i)
 says at (statements.Update u) = Changes (OfUpdate u)
 says at (statements.Delete x) = Changes (OfDelete x)
-says at (statements.Query q) = Asks (q, at)
+says at (statements.Query q) = Asks q
 says at statements.Begin = Unread kinds.NotYet at
 says at statements.Commit = Unread kinds.NotYet at
 says at statements.Rollback = Unread kinds.NotYet at
 
-abbrev pub reading_of : Parsed → Reading Define Change Asked
+abbrev pub reading_of : Parsed → Reading Define Change Query
 reading_of (parsed.Statement tree at) = says at tree
 reading_of (parsed.Fault at) = Unread kinds.Syntax at
 
@@ -77,7 +67,7 @@ abbrev pub section_name : Script → ℕ → List ℕ
 section_name script n = (get_or script.sections n no_section).name
 
 -- an item of a script: a statement is a part of its text, and AFTER waits for the section that it names
-abbrev pub reads : Script → Item → Reading Define Change Asked → Type 0
+abbrev pub reads : Script → Item → Reading Define Change Query → Type 0
 reads script (Sql from to) r = (p : Parsed) × IsParsedOf script.text from to p × (r ≡ reading_of p)
 reads script (After section n) r = r ≡ Waits (section_name script section) section n
 
@@ -158,27 +148,9 @@ query_refusal (query.Wide p) = Some (kinds.Wide, p)
 query_refusal (query.Limit p) = Some (kinds.Limit, p)
 query_refusal query.Memory = None
 
--- WHICH QUERIES RUN: all but those of which a path pattern asks ALL SHORTEST of walks that do not end by themselves. They end where it is bounded,
--- or its mode is another than WALK.
-abbrev pub keeps_all : Selector → Bool
-keeps_all selectors.Every = false
-keeps_all selectors.Any = false
-keeps_all selectors.AnyShortest = false
-keeps_all selectors.AllShortest = true
-
-abbrev pub path_runs : CheckedPath → Bool
-path_runs p = not (walks_on p.mode (outlines p) && keeps_all p.selector)
-
-abbrev pub runs : CheckedQuery → Bool
-runs y = list_all path_runs y.paths
-
--- another that is not refused is NotYet, where it begins
-abbrev pub IsNotYet : Defined → Asked → FaultKind → ℕ → Type 0
-IsNotYet d (q, begin) kind at = (query_fault d q ≡ None) × (runs (checked_query d q) ≡ false) × (kind ≡ kinds.NotYet) × (at ≡ begin)
-
-abbrev pub checks : Defined → Asked → Ruling CheckedQuery → Type 0
-checks d (q, begin) (Faulty kind at) = ((f : QueryFault) × (query_fault d q ≡ Some f) × (query_refusal f ≡ Some (kind, at))) ⊎ IsNotYet d (q, begin) kind at
-checks d (q, begin) (Fine y) = (query_fault d q ≡ None) × (y ≡ checked_query d q) × (runs y ≡ true)
+abbrev pub checks : Defined → Query → Ruling CheckedQuery → Type 0
+checks d q (Faulty kind at) = (f : QueryFault) × (query_fault d q ≡ Some f) × (query_refusal f ≡ Some (kind, at))
+checks d q (Fine y) = (query_fault d q ≡ None) × (y ≡ checked_query d q)
 
 -- the rows of the answer, in value order
 abbrev pub answers : Defined → Tables → CheckedQuery → Found → Type 0
@@ -187,7 +159,7 @@ answers d tables y (Listed rows) = Answer (shapes d) tables y rows × IsSorted r
 -- THE WHOLE
 
 -- what the items of a script say
-abbrev pub language : Script → Judges Defined Define Change Asked CheckedChange CheckedQuery
+abbrev pub language : Script → Judges Defined Define Change Query CheckedChange CheckedQuery
 language script = record {
   reads = reads script;
   defines = defines;

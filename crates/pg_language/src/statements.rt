@@ -1,10 +1,11 @@
 //! The language of scripts as a type, by which laws that hold in any language are called.
 ghost use Rattle.pg_ast.specs.declared.define.Define.{Define};
+ghost use Rattle.pg_ast.specs.declared.pattern.Query.{Query};
 ghost use Rattle.pg_meaning.specs.declared.checked.CheckedChange.{CheckedChange};
 ghost use Rattle.pg_meaning.specs.declared.checked.CheckedQuery.{CheckedQuery};
 ghost use Rattle.pg_rules.specs.Catalog.{Defined};
 ghost use Rattle.pg_rules.specs.Changes.{Change};
-ghost use Rattle.pg_language.specs.Language.{Asked, language};
+ghost use Rattle.pg_language.specs.Language.{language};
 
 use pg_session::Language;
 
@@ -18,7 +19,7 @@ impl Language for Statements {
 
     ghost Change = { Change };
 
-    ghost Query = { Asked };
+    ghost Query = { Query };
 
     ghost CheckedChange = { CheckedChange };
 

@@ -113,6 +113,17 @@ impl RowArrays {
         }
     }
 
+    /// The same rows, which share all chunks. Only want of memory refuses it.
+    pub fn share(&self, alloc: Global) -> Result<RowArrays, AllocError>
+        ensures { IfOk result (λ same. same ≡ self.now) }
+    {
+        let mut tables = Vec::with_capacity(alloc, self.tables.len())?;
+        for rows in &self.tables {
+            tables.push(rows.share()?)?;
+        }
+        Ok(RowArrays { tables })
+    }
+
     /// The same rows under writes, of which there is one list for each table by its number, in order of the keys. A table
     /// without writes shares all chunks, and any other those that no write touches, all but a few beside those that one does.
     /// These rows stay. Only want of memory refuses it.

@@ -5,6 +5,7 @@
 mod cut;
 mod ends;
 mod find;
+mod kept;
 mod laws;
 mod merge;
 mod run;

@@ -4,3 +4,4 @@ pub mod Passes
 pub mod One
 pub mod Whole
 pub mod Trials
+pub mod GeneratedLaws

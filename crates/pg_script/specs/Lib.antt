@@ -11,3 +11,4 @@ pub mod Session
 pub mod Legal
 pub mod Exact
 pub mod Fitting
+pub mod Generated

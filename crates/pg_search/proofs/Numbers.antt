@@ -42,7 +42,7 @@ same_items f (x ∷ xs) (y ∷ ys) h e =
     λ i. first i ∷ rest i
 
 module _ (n : Numbers) (are : AreNumbers n) where
-  same_hops : (i j : ℕ) → i < length n.walks → j < length n.walks → hops_at n i ≡ hops_at n j → i ≡ j
+  pub same_hops : (i j : ℕ) → i < length n.walks → j < length n.walks → hops_at n i ≡ hops_at n j → i ≡ j
   same_hops i j l m e = same_place n.walks [] i j are.walks l m (same_items (hop_of n) (list_at n.walks i) (list_at n.walks j) (λ x y c d k.
       let p = are.of_walks i x c in
       let q = are.of_walks j y d in
@@ -50,7 +50,7 @@ module _ (n : Numbers) (are : AreNumbers n) where
       let to = same_place n.elems n.start x.1 y.1 are.elems p.1 q.1 (ap (λ (h : Hop). h.to) k) in
       λ t. (edge t, to t)) e)
 
-  same_mentions : (i j : ℕ) → i < length n.names → j < length n.names → mentions_at n i ≡ mentions_at n j → i ≡ j
+  pub same_mentions : (i j : ℕ) → i < length n.names → j < length n.names → mentions_at n i ≡ mentions_at n j → i ≡ j
   same_mentions i j l m e = same_place n.names [] i j are.names l m (same_items (mention_of n) (list_at n.names i) (list_at n.names j) (λ x y c d k.
       let var = ap (λ (z : Mention). z.var) k in
       let elem = same_place n.elems n.start x.1 y.1 are.elems (are.of_names i x c) (are.of_names j y d) (ap (λ (z : Mention). z.elem) k) in

@@ -7,9 +7,9 @@ use Rattle.pg_meaning.specs.declared.checked.CheckedPath.{CheckedPath}
 use Rattle.pg_meaning.specs.declared.checked.PathBinding.{PathBinding}
 use Rattle.pg_meaning.specs.Walks.{graph_of}
 use Rattle.pg_meaning.specs.Bindings.{Binding, Distinct, IsAllowed, path_binding}
-use Rattle.pg_auto.specs.States.{binding_of, walked}
+use Rattle.pg_auto.specs.States.{Walked, binding_of, walked}
 use Rattle.pg_search.specs.declared.states.Kept.{Kept}
-use Rattle.pg_search.specs.Numbers.{Numbers, elem_at, state_of}
+use Rattle.pg_search.specs.Numbers.{Numbers, elem_at, hop_of, mention_of, state_of}
 
 pub record AreBindings (shapes : Shapes) (tables : Tables) (path : CheckedPath) (start : ElemId) (found : List Binding) : Type 0 where
   pub exactly : (b : Binding) → Contains found b ↔ (IsAllowed (graph_of shapes path.graph tables) path b × (b.start ≡ start))
@@ -44,6 +44,10 @@ first_elem n o = elim o [ None ↦ [] | Some k ↦ elem_at n k ∷ [] ]
 -- what a variable stands for
 abbrev pub list_of : Numbers → List (ℕ × ℕ) → List (ℕ × ℕ) → ℕ → List ElemId
 list_of n singles groups x = first_elem n (first_no singles x) ++ flat_map (named n x) groups
+
+-- the walk of some hops and mentions
+abbrev pub walk_of : Numbers → List (ℕ × ℕ) → List (ℕ × ℕ) → List (ℕ × ℕ) → Walked
+walk_of n hops singles groups = record { hops = map (hop_of n) hops; singles = map (mention_of n) singles; groups = map (mention_of n) groups }
 
 -- the binding of a state behind the last of so many stages
 abbrev pub found_at : Numbers → ℕ → List ℕ → Kept → List PathBinding

@@ -56,6 +56,11 @@ pub record AreNumbers (n : Numbers) : Type 0 where
   pub of_walks : (k : ℕ) (item : ℕ × ℕ) → Contains (list_at n.walks k) item → (item.0 < length n.elems) × (item.1 < length n.elems)
   pub of_names : (k : ℕ) (item : ℕ × ℕ) → Contains (list_at n.names k) item → item.1 < length n.elems
 
+-- different numbers stand for different walks, and for different mentions
+pub record StandApart (n : Numbers) : Type 0 where
+  pub hops : (i j : ℕ) → i < length n.walks → j < length n.walks → hops_at n i ≡ hops_at n j → i ≡ j
+  pub mentions : (i j : ℕ) → i < length n.names → j < length n.names → mentions_at n i ≡ mentions_at n j → i ≡ j
+
 pub record IsWithin (n : Numbers) (a : Kept) : Type 0 where
   pub walk : a.walk < length n.walks
   pub singles : a.singles < length n.names

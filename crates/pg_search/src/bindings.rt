@@ -3,7 +3,6 @@ ghost use Rattle.std.specs.Prelude.{ℕ, ◌≡◌, ◌<◌, [], ◌∷◌, ◌+
 ghost use Rattle.pg_keyed.specs.Lists.{Each};
 ghost use Rattle.pg_meaning.specs.Bindings.{path_binding};
 ghost use Rattle.pg_auto.specs.States.{binding_of, walked};
-ghost use Rattle.pg_search.specs.Chains.{list_at};
 ghost use Rattle.pg_search.specs.Found as spec;
 ghost use Rattle.pg_search.specs.Numbers.{IsWithin, elem_at, state_of};
 
@@ -176,20 +175,27 @@ fn lists_of(
     Ok(lists)
 }
 
-/// What variables stand for in a state.
-fn vars_of(
+/// The binding of a walk from the start, by the numbers of its hops and of what it names for the parts that stand once and for
+/// the quantified parts.
+pub fn binding_of_items(
     alloc: Global,
     numbers: &Numbered<'_>,
     vars: &[u32],
-    state: &Kept,
-) -> Result<List<List<ElemId>>, AllocError>
-    requires { IsWithin numbers.now state.now }
-    ensures { IfOk result (λ lists. lists ≡ map (spec.list_of numbers.now (list_at numbers.now.names state.now.singles) (list_at numbers.now.names state.now.groups)) vars.now) }
+    hops: &[(usize, usize)],
+    singles: &[(usize, usize)],
+    groups: &[(usize, usize)],
+) -> Result<PathBinding, AllocError>
+    ensures { IfOk result (λ b. b ≡ path_binding (binding_of numbers.now.start vars.now (spec.walk_of numbers.now hops.now singles.now groups.now))) }
 {
-    let names = numbers.names();
-    let singles = names.items(alloc, state.singles)?;
-    let groups = names.items(alloc, state.groups)?;
-    lists_of(alloc, numbers, &singles, &groups, vars)
+    numbers.are_numbers();
+    let vertices = vertices_of(alloc, numbers, hops)?;
+    let edges = edges_of(alloc, numbers, hops)?;
+    let vars = lists_of(alloc, numbers, singles, groups, vars)?;
+    Ok(PathBinding {
+        vertices,
+        edges,
+        vars,
+    })
 }
 
 /// The binding of a state.
@@ -202,16 +208,10 @@ fn binding(
     requires { IsWithin numbers.now state.now }
     ensures { IfOk result (λ b. b ≡ path_binding (binding_of numbers.now.start vars.now (walked (state_of numbers.now state.now)))) }
 {
-    numbers.are_numbers();
     let hops = numbers.walks().items(alloc, state.walk)?;
-    let vertices = vertices_of(alloc, numbers, &hops)?;
-    let edges = edges_of(alloc, numbers, &hops)?;
-    let vars = vars_of(alloc, numbers, vars, state)?;
-    Ok(PathBinding {
-        vertices,
-        edges,
-        vars,
-    })
+    let singles = numbers.names().items(alloc, state.singles)?;
+    let groups = numbers.names().items(alloc, state.groups)?;
+    binding_of_items(alloc, numbers, vars, &hops, &singles, &groups)
 }
 
 /// Appends the binding of a state behind the last of so many stages.

@@ -7,7 +7,7 @@ ghost use Rattle.pg_view.specs.declared.view.Neighbour.{Neighbour};
 ghost use Rattle.pg_search.specs.Chains.{extended, list_at};
 ghost use Rattle.pg_search.specs.Hops.{hop_view};
 ghost use Rattle.pg_search.specs.Numbers as spec;
-ghost use Rattle.pg_search.specs.Numbers.{AreNumbers, Grow, hops_at};
+ghost use Rattle.pg_search.specs.Numbers.{AreNumbers, Grow, StandApart, hops_at};
 ghost use Rattle.pg_search.specs.Puts.{IsPut};
 ghost use Rattle.pg_search.specs.Steps.{IsNumbered, IsLonger, IsNamed};
 
@@ -153,6 +153,13 @@ impl<'a> Numbered<'a> {
         ensures { AreNumbers self.now }
     {
         let _ = &self.elems;
+    }
+
+    /// That different numbers stand for different walks, and for different mentions. It does nothing.
+    pub fn are_apart(&self)
+        ensures { StandApart self.now }
+    {
+        self.are_numbers();
     }
 
     /// The number of the vertex at which a walk ends.

@@ -1,5 +1,5 @@
 //! Every allowed binding of a path pattern from one start.
-ghost use Rattle.std.specs.Prelude.{◌≡◌, ◌<◌, ◌↔◌, [], ◌∷◌, false, map, length, slice_get, Some, Contains, IsTrue, IfOk, OnOk};
+ghost use Rattle.std.specs.Prelude.{◌≡◌, ◌<◌, ◌≤◌, ◌+◌, ◌↔◌, [], ◌∷◌, false, cond, map, length, slice_get, Some, Contains, IsTrue, IfOk, OnOk};
 ghost use Rattle.pg_keyed.specs.Lists.{Each};
 ghost use Rattle.pg_value.specs.Graph.{vertices};
 ghost use Rattle.pg_value.specs.Tables.{IsInOrder};
@@ -55,7 +55,8 @@ pub fn is_vertex<V: View, L: Ledger>(
     elem: &ElemId,
     steps: &mut Steps<L>,
 ) -> bool
-    ensures { IsInOrder (V.tables view.now) → IsTrue result ↔ Contains (vertices graph.now (V.tables view.now)) elem.now }
+    ensures vertex { IsInOrder (V.tables view.now) → IsTrue result ↔ Contains (vertices graph.now (V.tables view.now)) elem.now }
+    ensures cost { steps.new ≤ steps.old + cond (spec.is_among graph.now.vertices elem.now.table) (V.row_cost view.now elem.now.table) 0 }
 {
     is_among(graph.vertices.as_slice(), elem.table)
         && view.row(elem.table, &elem.key, steps).is_some()

@@ -8,7 +8,8 @@ use Rattle.pg_short.specs.Steps.{Step, spot_view}
 use Rattle.pg_short.specs.Searches.{IsReached, IsOut, IsQueued, IsSearch, StandsFor, first_step, state_at, visited}
 use Rattle.pg_short.specs.Searches.IsReached.{first}
 use Rattle.pg_short.specs.declared.search.Search.{Search}
-use Rattle.pg_short.specs.Found.{IsBegun, IsSearching, steps_in}
+use Rattle.pg_short.specs.Found.{IsBegun, IsSearching, AreMade, steps_in}
+use Rattle.pg_short.proofs.Made.{made_first}
 
 module _ (t : Task) (queue : List (ℕ × ℕ)) (out : IsOut (0, 0) queue []) where
   abbrev found : List Step
@@ -42,4 +43,5 @@ begun_searching t s b = record {
   search = subst (λ (xs : List ℕ). IsSearch t (steps_in s) xs s.waiting) (sym b.order)
       (subst (λ (xs : List Step). IsSearch t xs [] s.waiting) (sym b.found) (begins_search t s.waiting b.waiting));
   spots = ap (map spot_view) b.spots ∙ (λ i. map (spot_of t.stages) (visited t (steps_in s) (sym b.order i)));
+  made = subst (λ (xs : List ℕ). AreMade t (steps_in s) xs) (sym b.order) (subst (λ (xs : List Step). AreMade t xs []) (sym b.found) (made_first t));
 }

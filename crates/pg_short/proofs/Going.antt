@@ -10,9 +10,10 @@ use Rattle.pg_short.specs.Steps.{Step, step_view, spot_view, next_steps}
 use Rattle.pg_short.specs.Searches.{IsMore, IsSearch, visited}
 use Rattle.pg_short.specs.Visits.{IsAdded}
 use Rattle.pg_short.specs.declared.search.Search.{Search}
-use Rattle.pg_short.specs.Found.{IsVisit, IsSearching, IsPopped, steps_in}
+use Rattle.pg_short.specs.Found.{IsVisit, IsSearching, IsPopped, AreMade, steps_in}
 use Rattle.pg_short.proofs.Lists.{one_get}
-use Rattle.pg_short.proofs.Searching.{pass_step, visit_step, visited_grow, map_both}
+use Rattle.pg_short.proofs.Searching.{pass_step, visit_step, visited_grow, map_both, moves}
+use Rattle.pg_short.proofs.Made.{made_more}
 
 module _ (tells : TestsTell) (t : Task) (walk : is_walk t.mode ≡ true) (e : ℕ × ℕ) (s : Search) (step : Step) (here : slice_get (steps_in s) e.1 ≡ Some step) (p : IsPopped t e s) where
   pub go_pass : (keys : List Spot) (u : Search) → IsAdded (map spot_view s.spots.keys) step.spot keys false → keys ≡ map spot_view u.spots.keys → steps_in s ≡ steps_in u → s.order.items ≡ u.order.items → s.waiting ≡ u.waiting
@@ -23,6 +24,7 @@ module _ (tells : TestsTell) (t : Task) (walk : is_walk t.mode ≡ true) (e : �
         search = subst (IsSearch t (steps_in u) u.order.items) w (subst (λ (xs : List ℕ). IsSearch t (steps_in u) xs s.waiting) o (subst (λ (xs : List Step). IsSearch t xs s.order.items s.waiting) f
             (pass_step tells t walk (steps_in s) s.order.items p.waited s.waiting e step here p.out known p.search)));
         spots = sym k ∙ added.0 ∙ p.spots ∙ (λ i. map (spot_of t.stages) (visited t (f i) (o i)));
+        made = subst (λ (xs : List ℕ). AreMade t (steps_in u) xs) o (subst (λ (xs : List Step). AreMade t xs s.order.items) f p.made);
       }
 
   pub go_visit : (r u : Search) → IsAdded (map spot_view s.spots.keys) step.spot (map spot_view r.spots.keys) true → steps_in s ≡ steps_in r → s.order.items ≡ r.order.items → s.waiting ≡ r.waiting
@@ -44,4 +46,7 @@ module _ (tells : TestsTell) (t : Task) (walk : is_walk t.mode ≡ true) (e : �
         spots = ap (map spot_view) d.spots ∙ added.0 ∙ (λ i. p.spots i ++ (p.search.stands e.1 step here).spot i ∷ [])
             ∙ sym (map_both (spot_of t.stages) (visited t (steps_in s) s.order.items) _)
             ∙ ap (map (spot_of t.stages)) (sym grow) ∙ (λ i. map (spot_of t.stages) (visited t (found i) (order i)));
+        made = subst (λ (xs : List ℕ). AreMade t (steps_in u) xs) order (subst (λ (xs : List Step). AreMade t xs (s.order.items ++ e.1 ∷ [])) found
+            (made_more t (steps_in s) s.order.items e.1 step here
+            (λ next c. (moves tells t walk (steps_in s) s.order.items p.waited s.waiting e step here p.out p.low p.search u.waiting pushed next c).before) p.search.ordered p.made));
       }

@@ -24,7 +24,7 @@ in_node : (node : Option CFiller) (e : ElemId) (m : Mention) → Contains (node_
 in_node None e m c = absurd (in_nil m c)
 in_node (Some f) e m c = in_mention f e m c
 
-on_legs : (legs : List Leg) (hops : List Hop) (m : Mention) → Contains (seen_on_legs legs hops) m → list_any (is_of_leg m.var) legs ≡ true
+pub on_legs : (legs : List Leg) (hops : List Hop) (m : Mention) → Contains (seen_on_legs legs hops) m → list_any (is_of_leg m.var) legs ≡ true
 on_legs [] hops m c = absurd (in_nil m c)
 on_legs (leg ∷ legs) [] m c = absurd (in_nil m c)
 on_legs (leg ∷ legs) (hop ∷ hops) m c = elim (in_append (mention leg.edge hop.edge) (node_mention leg.node hop.to ++ seen_on_legs legs hops) m c) [
@@ -41,7 +41,7 @@ named_in round v hops m c = elim (in_append (node_mention round.node v) (seen_on
   | inr b ↦ or_right (is_of_node m.var round.node) _ (on_legs round.legs hops m b)
 ]
 
-named_here : (stage : Stage) (v : ElemId) (hops : List Hop) (m : Mention) → Contains (singles_in stage v hops) m → names m.var stage ≡ true
+pub named_here : (stage : Stage) (v : ElemId) (hops : List Hop) (m : Mention) → Contains (singles_in stage v hops) m → names m.var stage ≡ true
 named_here stage v hops m c = go stage.grouped c
   where
     go : (g : Bool) → Contains (cond g [] (seen_in stage.round v hops)) m → (not g && mentions m.var stage.round) ≡ true

@@ -75,7 +75,7 @@ any_same (y ∷ ys) x h = go (spot_eq.it x y) refl h (any_same ys x)
     go true e k again = in_here (spot_view y) (map spot_view ys) (spot_view x) (sym (same_spot x y e))
     go false e k again = in_there (spot_view y) (map spot_view ys) (spot_view x) (again k)
 
-same_any : (xs : List HeldSpot) (x : HeldSpot) → Contains (map spot_view xs) (spot_view x) → list_any (spot_eq.it x) xs ≡ true
+pub same_any : (xs : List HeldSpot) (x : HeldSpot) → Contains (map spot_view xs) (spot_view x) → list_any (spot_eq.it x) xs ≡ true
 same_any [] x c = absurd (in_nil (spot_view x) c)
 same_any (y ∷ ys) x c = elim (in_cons (spot_view y) (map spot_view ys) (spot_view x) c) [
   | inl e ↦ or_left (spot_eq.it x y) _ (spot_same x y (sym e))

@@ -39,14 +39,14 @@ module _ (tells : TestsTell) (t : Task) (walk : is_walk t.mode ≡ true) where
     queued = λ x c. v.queued x (o.back x c);
   }
 
-below : (k n : ℕ) → (k < n) ⊎ (n ≤ k)
+pub below : (k n : ℕ) → (k < n) ⊎ (n ≤ k)
 below k n = elim (leb_tells n k) [ inl x ↦ inr x.1 | inr x ↦ inl (let l = x.1 in omega arith) ]
 
-in_get : {X : Type 0} (xs : List X) (x : X) → Contains xs x → (k : ℕ) × (k < length xs) × (slice_get xs k ≡ Some x)
+pub in_get : {X : Type 0} (xs : List X) (x : X) → Contains xs x → (k : ℕ) × (k < length xs) × (slice_get xs k ≡ Some x)
 in_get [] x c = absurd (in_nil x c)
 in_get (y ∷ xs) x c = elim (in_cons y xs x c) [ inl e ↦ (0, omega arith, ap Some e) | inr r ↦ (let m = in_get xs x r in (suc m.0, let l = m.1 in omega arith, m.2)) ]
 
-get_in : {X : Type 0} (xs : List X) (k : ℕ) (x : X) → slice_get xs k ≡ Some x → Contains xs x
+pub get_in : {X : Type 0} (xs : List X) (k : ℕ) (x : X) → slice_get xs k ≡ Some x → Contains xs x
 get_in [] k x h = absurd (cc)
 get_in (y ∷ xs) zero x h = in_here y xs x (let same : y ≡ x = cc in same)
 get_in (y ∷ xs) (suc k) x h = in_there y xs x (get_in xs k x h)
@@ -87,7 +87,7 @@ module _ (tells : TestsTell) (t : Task) (walk : is_walk t.mode ≡ true) (found 
   own_agrees : Stands t s
   own_agrees = stands tells t walk s (v.searches.waits s s_waits)
 
-  moves : (y : Step) → Contains new y → IsMoved t e.1 s y
+  pub moves : (y : Step) → Contains new y → IsMoved t e.1 s y
   moves y c = steps_move tells t walk e.1 s own_agrees.agree step (v.stands e.1 step here) y c
 
   inside : e.1 < length found

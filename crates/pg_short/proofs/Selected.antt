@@ -16,7 +16,7 @@ use Rattle.pg_meaning.specs.Members.{in_nil, in_here, in_there, in_map, from_map
 use Rattle.pg_meaning.specs.Outlines.{is_walk}
 use Rattle.pg_meaning.specs.Sound.Patterns.{IsSoundPath}
 use Rattle.pg_auto.specs.Stages.{Stage}
-use Rattle.pg_auto.specs.States.{Task, State, walked, binding_of}
+use Rattle.pg_auto.specs.States.{Task, State, Completes, first_state, walked, binding_of}
 use Rattle.pg_auto.specs.Allowed.{StartStands, task_of}
 use Rattle.pg_auto.specs.Tests.{TestsTell}
 use Rattle.pg_auto.specs.Steps.{StepsOn, StepsEnd, IsSoundTask}
@@ -46,25 +46,25 @@ distinct_images f g (x ∷ xs) h d = (
 
 module _ (laws : Laws) (shapes : Shapes) (tables : Tables) (path : CheckedPath) (start : ElemId) (sound : IsSoundPath shapes path) (order : IsInOrder tables) (walk : is_walk path.mode ≡ true)
     (vertex : Contains (vertices path.graph tables) start) (all : List State) (v : Searches (task_of shapes tables path start) all []) where
-  abbrev task : Task
+  abbrev pub task : Task
   task = task_of shapes tables path start
 
-  abbrev spot : State → Spot
+  abbrev pub spot : State → Spot
   spot s = spot_of task.stages s
 
-  abbrev binding : State → Binding
+  abbrev pub binding : State → Binding
   binding s = binding_of start path.vars (walked s)
 
   abbrev ends : List State
   ends = filter (is_end task.stages) all
 
-  sound_task : IsSoundTask task
+  pub sound_task : IsSoundTask task
   sound_task = record { graph = sound.graph; tables = order }
 
-  past : (s : State) → is_end task.stages s ≡ true → slice_get task.stages s.stage ≡ None
+  pub past : (s : State) → is_end task.stages s ≡ true → slice_get task.stages s.stage ≡ None
   past s h = none_from task.stages s.stage (leb-true (length task.stages) s.stage h)
 
-  stands_at : (s : State) → IsReached task s → Stands task s
+  pub stands_at : (s : State) → IsReached task s → Stands task s
   stands_at s r = stands laws.tells task walk s r
 
   -- states behind the last stage that end at one vertex are of one spot
@@ -81,7 +81,7 @@ module _ (laws : Laws) (shapes : Shapes) (tables : Tables) (path : CheckedPath) 
       nothing [] = refl
       nothing (x ∷ xs) = nothing xs
 
-  one_spot : (s r : State) → IsReached task s → IsReached task r → slice_get task.stages s.stage ≡ None → slice_get task.stages r.stage ≡ None
+  pub one_spot : (s r : State) → IsReached task s → IsReached task r → slice_get task.stages s.stage ≡ None → slice_get task.stages r.stage ≡ None
       → last_vertex start s.hops ≡ last_vertex start r.hops → spot s ≡ spot r
   one_spot s r h k e f same =
       let a = stands_at s h in
@@ -110,20 +110,27 @@ module _ (laws : Laws) (shapes : Shapes) (tables : Tables) (path : CheckedPath) 
   of_found : (s : State) → Contains all s → is_end task.stages s ≡ true → Contains (bindings_in task path.vars all) (binding s)
   of_found s c e = in_map binding ends s (kept (is_end task.stages) all s c e)
 
-  ended_for : (b : Binding) → IsAllowedFrom shapes tables path start b → (e : State) × IsReached task e × (slice_get task.stages e.stage ≡ None) × (b ≡ binding e)
+  pub ended_for : (b : Binding) → IsAllowedFrom shapes tables path start b → (e : State) × IsReached task e × (slice_get task.stages e.stage ≡ None) × (b ≡ binding e)
   ended_for b a =
       let w = (laws.stands shapes tables path start vertex b).0 a in
       let e = walk_ends laws.on laws.end task sound_task (have_legs shapes path sound) w.walk w.completes in
       (e.state, e.reached, e.is_end, w.binding ∙ ap (binding_of start path.vars) e.walk)
 
+  -- the walk of a state behind the last stage completes the first state, and its binding is allowed
+  pub completes_end : (s : State) → IsReached task s → is_end task.stages s ≡ true → Completes task (first_state start) (walked s)
+  completes_end s r e =
+      let k = (laws.end task s (past s e) (walked s)).1 (record { permitted = all_permitted path.mode start s.hops walk; agree = (stands_at s r).agree }, refl) in
+      leads laws.on task sound_task s (walked s) r k
+
+  pub allowed_end : (s : State) → IsReached task s → is_end task.stages s ≡ true → IsAllowedFrom shapes tables path start (binding s)
+  allowed_end s r e = (laws.stands shapes tables path start vertex (binding s)).1 (record { walk = walked s; completes = completes_end s r e; binding = refl })
+
   pub gives : (b : Binding) → Contains (bindings_in task path.vars all) b → IsAllowedFrom shapes tables path start b
   gives b c =
       let f = found_of b c in
-      let r = v.reached f.state f.there in
-      let k = (laws.end task f.state (past f.state f.is_last) (walked f.state)).1 (record { permitted = all_permitted path.mode start f.state.hops walk; agree = (stands_at f.state r).agree }, refl) in
-      (laws.stands shapes tables path start vertex b).1 (record { walk = walked f.state; completes = leads laws.on task sound_task f.state (walked f.state) r k; binding = sym f.binding })
+      subst (IsAllowedFrom shapes tables path start) f.binding (allowed_end f.state (v.reached f.state f.there) f.is_last)
 
-  same_ends : (b c : Binding) (s r : State) → b ≡ binding s → c ≡ binding r → SamePair b c → last_vertex start s.hops ≡ last_vertex start r.hops
+  pub same_ends : (b c : Binding) (s r : State) → b ≡ binding s → c ≡ binding r → SamePair b c → last_vertex start s.hops ≡ last_vertex start r.hops
   same_ends b c s r e f p = ap (λ (x : Binding). last_vertex x.start x.hops) (sym e) ∙ p.1 ∙ ap (λ (x : Binding). last_vertex x.start x.hops) f
 
   distinct : Distinct (bindings_in task path.vars all)

@@ -101,14 +101,14 @@ walk_push rounds r =
     let c = flat_push groups_at rounds r in
     λ i. record { hops = a i; singles = b i; groups = c i }
 
-abbrev round_at : ElemId → List Hop → Stage → Round
+abbrev pub round_at : ElemId → List Hop → Stage → Round
 round_at at hops stage = record { stage = stage; from = at; hops = hops }
 
 -- the round of a step, by what decides it
-abbrev round_by : Option Stage → Bool → ElemId → List Hop → Option Round
+abbrev pub round_by : Option Stage → Bool → ElemId → List Hop → Option Round
 round_by o b at hops = cond b (option_map (round_at at hops) o) None
 
-abbrev moved_by : Option Stage → Bool → State → List Hop → State
+abbrev pub moved_by : Option Stage → Bool → State → List Hop → State
 moved_by o b s hops = elim o as (λ _. State) [ None ↦ s | Some stage ↦ cond b (enter s stage hops) (leave s) ]
 
 walk_by : (o : Option Stage) (b : Bool) (s : State) (hops : List Hop) (rounds : List Round) → walked s ≡ walk_along rounds

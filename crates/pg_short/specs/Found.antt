@@ -1,5 +1,5 @@
 -- What a step of a search does to what it keeps.
-use Rattle.std.specs.Prelude.{◌≡◌, ◌≤◌, ℕ, List, [], ◌∷◌, ◌++◌, map, length, slice_get, Some, Contains}
+use Rattle.std.specs.Prelude.{◌≡◌, ◌≤◌, ◌<◌, ℕ, List, [], ◌∷◌, ◌++◌, map, length, slice_get, Some, Contains}
 use Rattle.pg_value.specs.declared.shape.Shapes.{Shapes}
 use Rattle.pg_value.specs.declared.shape.GraphShape.{GraphShape}
 use Rattle.pg_value.specs.Tables.{Tables}
@@ -32,9 +32,18 @@ steps_in s = map step_view s.found.items
 abbrev pub AreVisited : Task → Search → Type 0
 AreVisited t s = map spot_view s.spots.keys ≡ map (spot_of t.stages) (visited t (steps_in s) s.order.items)
 
+-- the steps from each that is visited are found behind it, and of those that go on from another no others are found
+pub record AreMade (t : Task) (found : List Step) (order : List ℕ) : Type 0 where
+  pub first : slice_get found 0 ≡ Some (first_step t.start)
+  pub all : (n : ℕ) (step next : Step) → Contains order n → slice_get found n ≡ Some step → Contains (next_steps t.shapes t.tables t.graph t.stages n step) next
+      → (k : ℕ) × (n < k) × (slice_get found k ≡ Some next)
+  pub only : (k : ℕ) (next : Step) → slice_get found k ≡ Some next → next.before < k
+      → Contains order next.before × ((step : Step) × (slice_get found next.before ≡ Some step) × Contains (next_steps t.shapes t.tables t.graph t.stages next.before step) next)
+
 pub record IsSearching (t : Task) (s : Search) : Type 0 where
   pub search : IsSearch t (steps_in s) s.order.items s.waiting
   pub spots : AreVisited t s
+  pub made : AreMade t (steps_in s) s.order.items
 
 -- a least count and its number are taken from what waits
 pub record IsPopped (t : Task) (e : ℕ × ℕ) (s : Search) : Type 0 where
@@ -43,6 +52,7 @@ pub record IsPopped (t : Task) (e : ℕ × ℕ) (s : Search) : Type 0 where
   pub out : IsOut e waited s.waiting
   pub low : (x : ℕ × ℕ) → Contains waited x → e.0 ≤ x.0
   pub spots : AreVisited t s
+  pub made : AreMade t (steps_in s) s.order.items
 
 -- the start alone is found, and waits
 pub record IsBegun (start : ElemId) (s : Search) : Type 0 where
@@ -55,3 +65,4 @@ pub record IsBegun (start : ElemId) (s : Search) : Type 0 where
 pub record IsSearched (t : Task) (s : Search) : Type 0 where
   pub search : IsSearch t (steps_in s) s.order.items []
   pub spots : AreVisited t s
+  pub made : AreMade t (steps_in s) s.order.items

@@ -7,3 +7,6 @@ pub mod Visits
 pub mod Searches
 pub mod Found
 pub mod Walks
+pub mod Tight
+pub mod Rests
+pub mod Costs

@@ -56,7 +56,7 @@ fn push_edges(alloc: Global, hops: &[Neighbour], out: &mut List<ElemId>) -> Resu
 const MOST_VERTICES: usize = 17_179_869_183;
 
 /// The same vertices, where they are not too many.
-fn not_too_many(vertices: List<ElemId>) -> Result<List<ElemId>, AllocError>
+pub fn not_too_many(vertices: List<ElemId>) -> Result<List<ElemId>, AllocError>
     ensures same { IfOk result (λ list. list ≡ vertices) }
     ensures short { IfOk result (λ list. length list < 2 ^ 34) }
 {
@@ -131,7 +131,7 @@ fn firsts<'w>(alloc: Global, seen: &[Mention<'w>]) -> Result<Vec<Mention<'w>>, A
 }
 
 /// What a round names for the quantified parts.
-fn groups<'w>(
+pub fn groups<'w>(
     alloc: Global,
     stage: &Stage<'_>,
     vertex: &'w ElemId,

@@ -1,5 +1,5 @@
 //! The rounds of a stage that fit from a vertex, over a view.
-ghost use Rattle.std.specs.Prelude.{◌≡◌, ◌++◌, [], ◌∷◌, map, flat_map, filter, cond, IfOk, OnOk};
+ghost use Rattle.std.specs.Prelude.{◌≡◌, ◌≤◌, ◌+◌, ◌++◌, [], ◌∷◌, map, flat_map, filter, cond, sum_by, IfOk, OnOk};
 ghost use Rattle.std.specs.Option.{option_copied};
 ghost use Rattle.pg_keyed.specs.Lists.{Each};
 ghost use Rattle.pg_meaning.specs.Walks.{last_vertex};
@@ -7,6 +7,7 @@ ghost use Rattle.pg_auto.specs.Autos.{leg_view, stage_view};
 ghost use Rattle.pg_auto.specs.Successors as spec;
 ghost use Rattle.pg_search.specs.Hops.{IsCheckedLeg, hop_view};
 ghost use Rattle.pg_search.specs.Checked.{IsCheckedStage};
+ghost use Rattle.pg_short.specs.Costs.{front_cost, fronts_cost, legs_cost};
 ghost use Rattle.pg_short.specs.Rounds.{hops_in, all_hops, reading, longer_over, fitting_one};
 
 use crate::conditions::is_round;
@@ -87,7 +88,8 @@ fn push_longer<V: View, L: Ledger>(
     steps: &mut Steps<L>,
 ) -> Result<(), AllocError>
     requires { IsCheckedLeg (V.shapes view.now) (leg_view leg.now) }
-    ensures { OnOk result (all_hops found.new.items ≡ all_hops found.old.items ++ longer_over (reading (V.shapes view.now) (V.tables view.now) graph.now vertex.now) (leg_view leg.now) vertex.now front.now) }
+    ensures hops { OnOk result (all_hops found.new.items ≡ all_hops found.old.items ++ longer_over (reading (V.shapes view.now) (V.tables view.now) graph.now vertex.now) (leg_view leg.now) vertex.now front.now) }
+    ensures cost { steps.new ≤ steps.old + front_cost (V.hop_cost view.now) (V.shapes view.now) graph.now (leg_view leg.now) vertex.now front.now }
 {
     let at = last_of(vertex, front);
     let hops = hops_of(view, alloc, graph, leg, at, steps)?;
@@ -105,7 +107,8 @@ fn extended<V: View, L: Ledger>(
     steps: &mut Steps<L>,
 ) -> Result<Vec<List<Neighbour>>, AllocError>
     requires { IsCheckedLeg (V.shapes view.now) (leg_view leg.now) }
-    ensures { IfOk result (λ found. all_hops found.items ≡ flat_map (longer_over (reading (V.shapes view.now) (V.tables view.now) graph.now vertex.now) (leg_view leg.now) vertex.now) fronts.now) }
+    ensures hops { IfOk result (λ found. all_hops found.items ≡ flat_map (longer_over (reading (V.shapes view.now) (V.tables view.now) graph.now vertex.now) (leg_view leg.now) vertex.now) fronts.now) }
+    ensures cost { steps.new ≤ steps.old + sum_by (front_cost (V.hop_cost view.now) (V.shapes view.now) graph.now (leg_view leg.now) vertex.now) fronts.now }
 {
     let mut found = Vec::new(alloc);
     for front in fronts {
@@ -134,7 +137,8 @@ fn along<V: View, L: Ledger>(
     steps: &mut Steps<L>,
 ) -> Result<Vec<List<Neighbour>>, AllocError>
     requires { Each (IsCheckedLeg (V.shapes view.now)) (map leg_view legs.now) }
-    ensures { IfOk result (λ all. all_hops all.items ≡ spec.along (reading (V.shapes view.now) (V.tables view.now) graph.now vertex.now) (map leg_view legs.now) vertex.now (all_hops found.items)) }
+    ensures hops { IfOk result (λ all. all_hops all.items ≡ spec.along (reading (V.shapes view.now) (V.tables view.now) graph.now vertex.now) (map leg_view legs.now) vertex.now (all_hops found.items)) }
+    ensures cost { steps.new ≤ steps.old + fronts_cost (V.hop_cost view.now) (V.shapes view.now) (V.tables view.now) graph.now (map leg_view legs.now) vertex.now (all_hops found.items) }
 {
     match legs {
         [] => Ok(found),
@@ -155,7 +159,8 @@ fn begun<V: View, L: Ledger>(
     steps: &mut Steps<L>,
 ) -> Result<Vec<List<Neighbour>>, AllocError>
     requires { IsCheckedStage (V.shapes view.now) (stage_view stage.now) }
-    ensures { IfOk result (λ found. all_hops found.items ≡ spec.along (reading (V.shapes view.now) (V.tables view.now) graph.now vertex.now) (stage_view stage.now).round.legs vertex.now ([] ∷ [])) }
+    ensures hops { IfOk result (λ found. all_hops found.items ≡ spec.along (reading (V.shapes view.now) (V.tables view.now) graph.now vertex.now) (stage_view stage.now).round.legs vertex.now ([] ∷ [])) }
+    ensures cost { steps.new ≤ steps.old + legs_cost (V.hop_cost view.now) (V.shapes view.now) (V.tables view.now) graph.now (stage_view stage.now).round.legs vertex.now }
 {
     let mut first = Vec::new(alloc);
     first.push(List::new(alloc))?;
@@ -218,7 +223,8 @@ pub fn rounds_from<V: View, L: Ledger>(
     steps: &mut Steps<L>,
 ) -> Result<Vec<List<Neighbour>>, AllocError>
     requires { IsCheckedStage (V.shapes view.now) (stage_view stage.now) }
-    ensures { IfOk result (λ found. all_hops found.items ≡ spec.rounds_from (reading (V.shapes view.now) (V.tables view.now) graph.now vertex.now) (stage_view stage.now) vertex.now) }
+    ensures rounds { IfOk result (λ found. all_hops found.items ≡ spec.rounds_from (reading (V.shapes view.now) (V.tables view.now) graph.now vertex.now) (stage_view stage.now) vertex.now) }
+    ensures cost { steps.new ≤ steps.old + legs_cost (V.hop_cost view.now) (V.shapes view.now) (V.tables view.now) graph.now (stage_view stage.now).round.legs vertex.now }
 {
     if !node_admits(view, stage.node, vertex) {
         return Ok(Vec::new(alloc));

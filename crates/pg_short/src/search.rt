@@ -1,9 +1,10 @@
 //! A search in order of least lengths: the steps that it has found.
-ghost use Rattle.std.specs.Prelude.{ℕ, ◌≡◌, ◌<◌, ◌++◌, map, length, IfOk, OnOk};
+ghost use Rattle.std.specs.Prelude.{ℕ, ◌≡◌, ◌≤◌, ◌<◌, ◌+◌, ◌++◌, [], map, length, slice_get, Some, IfOk, OnOk, OnErr};
 ghost use Rattle.pg_keyed.specs.Lists.{Each};
 ghost use Rattle.pg_auto.specs.Autos.{stage_view};
 ghost use Rattle.pg_search.specs.Checked.{IsCheckedStage};
-ghost use Rattle.pg_short.specs.Steps.{step_view};
+ghost use Rattle.pg_short.specs.Costs.{IsRead, spot_cost, spots_cost};
+ghost use Rattle.pg_short.specs.Steps.{Step as FoundStep, step_view, spot_view};
 ghost use Rattle.pg_short.specs.Searches.{IsMore, first_step};
 ghost use Rattle.pg_auto.specs.Autos.{pattern};
 ghost use Rattle.pg_short.specs.Found.{IsVisit, IsSearching, IsPopped, IsBegun, IsSearched, task_over};
@@ -54,7 +55,8 @@ fn visit<V: View, L: Ledger>(
 ) -> Result<(), AllocError>
     requires checked { Each (IsCheckedStage (V.shapes view.now)) (map stage_view auto.now.stages) }
     requires number { number < length search.old.found.items }
-    ensures { OnOk result (IsVisit (V.shapes view.now) (V.tables view.now) auto.now.graph.now (map stage_view auto.now.stages) number search.old search.new) }
+    ensures visit { OnOk result (IsVisit (V.shapes view.now) (V.tables view.now) auto.now.graph.now (map stage_view auto.now.stages) number search.old search.new) }
+    ensures cost { (step : FoundStep) → slice_get (map step_view search.old.found.items) number ≡ Some step → steps.new ≤ steps.old + spot_cost (V.hop_cost view.now) (V.shapes view.now) (V.tables view.now) auto.now.graph.now (map stage_view auto.now.stages) step.spot }
 {
     let new = steps_from(alloc, view, auto, number, &search.found[number], steps)?;
     search.order.push(number)?;
@@ -74,7 +76,9 @@ pub fn go_on<V: View, L: Ledger>(
 ) -> Result<(), AllocError>
     requires checked { Each (IsCheckedStage (V.shapes view.now)) (map stage_view auto.now.stages) }
     requires popped { IsPopped (task_over (V.shapes view.now) (V.tables view.now) (pattern auto.now) start.now) least search.old }
-    ensures { OnOk result (IsSearching (task_over (V.shapes view.now) (V.tables view.now) (pattern auto.now) start.now) search.new) }
+    ensures searching { OnOk result (IsSearching (task_over (V.shapes view.now) (V.tables view.now) (pattern auto.now) start.now) search.new) }
+    ensures cost { OnOk result (steps.new + spots_cost (V.hop_cost view.now) (task_over (V.shapes view.now) (V.tables view.now) (pattern auto.now) start.now) (map spot_view search.old.spots.keys) ≤ steps.old + spots_cost (V.hop_cost view.now) (task_over (V.shapes view.now) (V.tables view.now) (pattern auto.now) start.now) (map spot_view search.new.spots.keys)) }
+    ensures reads { OnErr result (IsRead (V.hop_cost view.now) (task_over (V.shapes view.now) (V.tables view.now) (pattern auto.now) start.now) (map spot_view search.old.spots.keys) steps.old steps.new) }
 {
     tests_tell();
     let _ = start;
@@ -131,7 +135,8 @@ fn go_on_all<V: View, L: Ledger>(
 ) -> Result<(), AllocError>
     requires checked { Each (IsCheckedStage (V.shapes view.now)) (map stage_view auto.now.stages) }
     requires searching { IsSearching (task_over (V.shapes view.now) (V.tables view.now) (pattern auto.now) start.now) search.old }
-    ensures { OnOk result (IsSearched (task_over (V.shapes view.now) (V.tables view.now) (pattern auto.now) start.now) search.new) }
+    ensures searched { OnOk result (IsSearched (task_over (V.shapes view.now) (V.tables view.now) (pattern auto.now) start.now) search.new) }
+    ensures reads { IsRead (V.hop_cost view.now) (task_over (V.shapes view.now) (V.tables view.now) (pattern auto.now) start.now) (map spot_view search.old.spots.keys) steps.old steps.new }
 {
     for _turn in 0..usize::MAX {
         match search.waiting.pop() {
@@ -151,7 +156,8 @@ pub fn search_from<V: View, L: Ledger>(
     steps: &mut Steps<L>,
 ) -> Result<Search, AllocError>
     requires { Each (IsCheckedStage (V.shapes view.now)) (map stage_view auto.now.stages) }
-    ensures { IfOk result (IsSearched (task_over (V.shapes view.now) (V.tables view.now) (pattern auto.now) start.now)) }
+    ensures searched { IfOk result (IsSearched (task_over (V.shapes view.now) (V.tables view.now) (pattern auto.now) start.now)) }
+    ensures reads { IsRead (V.hop_cost view.now) (task_over (V.shapes view.now) (V.tables view.now) (pattern auto.now) start.now) [] steps.old steps.new }
 {
     let mut search = begun(alloc, start)?;
     go_on_all(alloc, view, auto, start, &mut search, steps)?;

@@ -8,6 +8,7 @@ ghost use Rattle.pg_auto.specs.Successors.{rounds_from as rounds_of};
 ghost use Rattle.pg_keyed.specs.Lists.{Each};
 ghost use Rattle.pg_search.specs.Checked.{IsCheckedStage};
 ghost use Rattle.pg_short.specs.Rounds.{hops_in, all_hops, reading};
+ghost use Rattle.pg_short.specs.Costs.{legs_cost, stage_cost, spot_cost};
 ghost use Rattle.pg_short.specs.Spots.{needed};
 ghost use Rattle.pg_short.specs.Steps as spec;
 ghost use Rattle.pg_short.specs.Steps.{named_view, step_view};
@@ -252,7 +253,8 @@ fn push_rounds<V: View, L: Ledger>(
     steps: &mut Steps<L>,
 ) -> Result<(), AllocError>
     requires { IsCheckedStage (V.shapes view.now) (stage_view stage.now) }
-    ensures { OnOk result (map step_view found.new.items ≡ map step_view found.old.items ++ spec.steps_in (map stage_view auto.now.stages) number (step_view step.now) (stage_view stage.now) (rounds_of (reading (V.shapes view.now) (V.tables view.now) auto.now.graph.now step.now.spot.at) (stage_view stage.now) step.now.spot.at)) }
+    ensures made { OnOk result (map step_view found.new.items ≡ map step_view found.old.items ++ spec.steps_in (map stage_view auto.now.stages) number (step_view step.now) (stage_view stage.now) (rounds_of (reading (V.shapes view.now) (V.tables view.now) auto.now.graph.now step.now.spot.at) (stage_view stage.now) step.now.spot.at)) }
+    ensures cost { steps.new ≤ steps.old + legs_cost (V.hop_cost view.now) (V.shapes view.now) (V.tables view.now) auto.now.graph.now (stage_view stage.now).round.legs step.now.spot.at }
 {
     let rounds = rounds_from(alloc, view, auto.graph, stage, &step.spot.at, steps)?;
     push_all_in(
@@ -278,7 +280,8 @@ fn push_entered<V: View, L: Ledger>(
     steps: &mut Steps<L>,
 ) -> Result<(), AllocError>
     requires { IsCheckedStage (V.shapes view.now) (stage_view stage.now) }
-    ensures { OnOk result (map step_view found.new.items ≡ map step_view found.old.items ++ spec.steps_entered (V.shapes view.now) (V.tables view.now) auto.now.graph.now (map stage_view auto.now.stages) number (step_view step.now) (stage_view stage.now)) }
+    ensures made { OnOk result (map step_view found.new.items ≡ map step_view found.old.items ++ spec.steps_entered (V.shapes view.now) (V.tables view.now) auto.now.graph.now (map stage_view auto.now.stages) number (step_view step.now) (stage_view stage.now)) }
+    ensures cost { steps.new ≤ steps.old + stage_cost (V.hop_cost view.now) (V.shapes view.now) (V.tables view.now) auto.now.graph.now (stage_view stage.now) step.now.spot.done step.now.spot.at }
 {
     if may_enter(stage, step.spot.done) {
         push_rounds(alloc, view, auto, number, step, stage, found, steps)
@@ -316,7 +319,8 @@ fn steps_in<V: View, L: Ledger>(
     steps: &mut Steps<L>,
 ) -> Result<Vec<Step>, AllocError>
     requires { IsCheckedStage (V.shapes view.now) (stage_view stage.now) }
-    ensures { IfOk result (λ found. map step_view found.items ≡ spec.steps_of (V.shapes view.now) (V.tables view.now) auto.now.graph.now (map stage_view auto.now.stages) number (step_view step.now) (stage_view stage.now)) }
+    ensures made { IfOk result (λ found. map step_view found.items ≡ spec.steps_of (V.shapes view.now) (V.tables view.now) auto.now.graph.now (map stage_view auto.now.stages) number (step_view step.now) (stage_view stage.now)) }
+    ensures cost { steps.new ≤ steps.old + stage_cost (V.hop_cost view.now) (V.shapes view.now) (V.tables view.now) auto.now.graph.now (stage_view stage.now) step.now.spot.done step.now.spot.at }
 {
     let mut found = Vec::new(alloc);
     push_entered(alloc, view, auto, number, step, stage, &mut found, steps)?;
@@ -341,7 +345,8 @@ pub fn steps_from<V: View, L: Ledger>(
     steps: &mut Steps<L>,
 ) -> Result<Vec<Step>, AllocError>
     requires { Each (IsCheckedStage (V.shapes view.now)) (map stage_view auto.now.stages) }
-    ensures { IfOk result (λ found. map step_view found.items ≡ spec.next_steps (V.shapes view.now) (V.tables view.now) auto.now.graph.now (map stage_view auto.now.stages) number (step_view step.now)) }
+    ensures made { IfOk result (λ found. map step_view found.items ≡ spec.next_steps (V.shapes view.now) (V.tables view.now) auto.now.graph.now (map stage_view auto.now.stages) number (step_view step.now)) }
+    ensures cost { steps.new ≤ steps.old + spot_cost (V.hop_cost view.now) (V.shapes view.now) (V.tables view.now) auto.now.graph.now (map stage_view auto.now.stages) (spec.spot_view step.now.spot) }
 {
     match auto.stages.get(step.spot.stage) {
         Some(stage) => steps_in(alloc, view, auto, number, step, stage, steps),

@@ -12,7 +12,7 @@ use pg_auto::Stage;
 use std::alloc::{AllocError, Global};
 
 /// The round by which a step goes on from another; None where it leaves the stage.
-fn round_of<'w, 's>(
+pub fn round_of<'w, 's>(
     stages: &'w [Stage<'s>],
     before: &'w Step,
     step: &'w Step,

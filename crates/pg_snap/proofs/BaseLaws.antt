@@ -1,9 +1,7 @@
 -- What is found in a base is what its tables hold.
-use Rattle.std.proofs.Common.{ℕ, zero, suc, ◌≡◌, ◌≤◌, ◌+◌, List, [], ◌∷◌, length, map, get_or, refl, ap, sym, subst, ◌∙◌, arith}
+use Rattle.std.proofs.Common.{ℕ, zero, suc, ◌≡◌, ◌≤◌, ◌+◌, List, [], ◌∷◌, length, get_or, refl, ap, sym, ◌∙◌, arith}
 use Rattle.std.specs.Prelude.{slice_get}
-use Rattle.std.specs.declared.option.Option.{Option}
 use Rattle.std.specs.Option.{option_map, unwrap_or}
-use Rattle.std.specs.List.{AllZip}
 use Rattle.pg_chunks.specs.Digits.{digits, digits_more}
 use Rattle.pg_value.specs.declared.value.Value.{Value}
 use Rattle.pg_value.specs.declared.value.Dir.{Dir}
@@ -12,55 +10,42 @@ use Rattle.pg_value.specs.declared.shape.TableNo.{TableNo}
 use Rattle.pg_value.specs.declared.shape.EdgeNo.{EdgeNo}
 use Rattle.pg_value.specs.declared.shape.EdgeShape.{EdgeShape}
 use Rattle.pg_value.specs.declared.shape.Shapes.{Shapes}
-use Rattle.pg_value.specs.Tables.{Stored, stored_at, held_in}
+use Rattle.pg_value.specs.Tables.{Stored, Tables, stored_at, held_in}
 use Rattle.pg_value.specs.TablesLaws.{stored_in, stored_at_in}
 use Rattle.pg_adj.specs.declared.ends.EdgeEnds.{EdgeEnds}
-use Rattle.pg_adj.specs.declared.group.Group.{Group}
-use Rattle.pg_adj.specs.declared.adj.BothEnds.{BothEnds}
-use Rattle.pg_adj.specs.Adjacency.{AreBoth, side, side_of, groups_of}
-use Rattle.pg_adj.specs.Groups.{AreGroups, group_at, edges_of, others_of}
-use Rattle.pg_view.specs.RowEnds.{all_ends}
 use Rattle.pg_view.specs.Lists.{joined, rows_in, Hold, AreLists}
 use Rattle.pg_snap.specs.Costs.{base_cost}
-use Rattle.pg_snap.specs.Bases.{BaseOf, ends_held, ends_in_base, entries_in_base, AreListEnds}
+use Rattle.pg_snap.specs.Bases.{BaseOf, ends_held, ends_in_base, entries_in_base}
+use Rattle.pg_snap.specs.declared.vertex.Side.{Side}
+use Rattle.pg_snap.specs.declared.sides.BothSides.{BothSides}
+use Rattle.pg_snap.specs.Under.{sides_of}
+use Rattle.pg_snap.specs.Sides.{AreSides, AreBothSides, AreSidesOf, side, side_of_table, sides_at}
 
 pub found : (lists : List (List Stored)) (t : TableNo) (k : List Value) (rows : List Stored) → Hold lists (joined lists) → rows ≡ rows_in lists t → stored_in k rows ≡ stored_at (t.0, k) (joined lists)
 found lists t k rows h e = ap (stored_in k) (e ∙ sym (h t)) ∙ stored_at_in t k (joined lists)
 
-none_there : (dir : Dir) → AreGroups dir [] []
-none_there dir = record { in_order = tt; full = tt; few = (omega arith); edges = λ v. refl; others = λ v. refl }
+none_there : (dir : Dir) → AreSides dir [] []
+none_there dir = record { full = tt; few = (omega arith); at = λ k. refl }
 
-one_side : (dir : Dir) (ends : List EdgeEnds) (both : BothEnds) → AreBoth ends both → AreGroups dir ends (side dir both)
+one_side : (dir : Dir) (ends : List EdgeEnds) (both : BothSides) → AreBothSides ends both → AreSides dir ends (side dir both)
 one_side Out ends both a = a.out
 one_side In ends both a = a.into
 
-groups_are : (f : EdgeShape → List EdgeEnds) (shapes : List EdgeShape) (tables : List BothEnds) (n : ℕ) (dir : Dir) → AllZip AreBoth (map f shapes) tables → AreGroups dir (unwrap_or (option_map f (slice_get shapes n)) []) (side_of dir (slice_get tables n))
-groups_are f [] [] n dir a = none_there dir
-groups_are f [] (t ∷ tables) n dir a = absurd a
-groups_are f (s ∷ shapes) [] n dir a = absurd a
-groups_are f (s ∷ shapes) (t ∷ tables) zero dir a = one_side dir (f s) t a.0
-groups_are f (s ∷ shapes) (t ∷ tables) (suc n) dir a = groups_are f shapes tables n dir a.1
+pub sides_are_of : (tables : Tables) (shapes : List EdgeShape) (sides : List BothSides) (n : ℕ) (dir : Dir) → AreSidesOf shapes tables sides → AreSides dir (unwrap_or (option_map (ends_held tables) (slice_get shapes n)) []) (side_of_table dir (slice_get sides n))
+sides_are_of tables [] [] n dir a = none_there dir
+sides_are_of tables [] (b ∷ sides) n dir a = absurd a
+sides_are_of tables (s ∷ shapes) [] n dir a = absurd a
+sides_are_of tables (s ∷ shapes) (b ∷ sides) zero dir a = one_side dir (ends_held tables s) b a.0
+sides_are_of tables (s ∷ shapes) (b ∷ sides) (suc n) dir a = sides_are_of tables shapes sides n dir a.1
 
-ends_same : (lists : List (List Stored)) (shapes : List EdgeShape) → Hold lists (joined lists) → map (ends_held (joined lists)) shapes ≡ map (λ shape. all_ends shape (rows_in lists shape.table)) shapes
-ends_same lists [] h = refl
-ends_same lists (s ∷ shapes) h = let r = ends_same lists shapes h in λ i. all_ends s (h s.table i) ∷ r i
+pub base_sides : (shapes : Shapes) (n : ℕ) (lists : List (List Stored)) (sides : List BothSides) (base : BaseOf) (e : EdgeNo) (dir : Dir) (v : List Value) (r : List Side) → AreSidesOf shapes.edges (joined lists) sides
+    → record { shapes = shapes; no = n; tables = joined lists } ≡ base → r ≡ sides_at v (side_of_table dir (slice_get sides e.0)) → r ≡ sides_of (entries_in_base base e dir v)
+base_sides shapes n lists sides base e dir v r b q h = h ∙ (sides_are_of (joined lists) shapes.edges sides e.0 dir b).at v ∙ ap (λ c. sides_of (entries_in_base c e dir v)) q
 
-groups_in : (shapes : Shapes) (n : ℕ) (lists : List (List Stored)) (ends : List BothEnds) (e : EdgeNo) (dir : Dir) → AreLists shapes lists → AreListEnds shapes.edges lists ends
-    → AreGroups dir (ends_in_base (record { shapes = shapes; no = n; tables = joined lists }) e) (groups_of ends e dir)
-groups_in shapes n lists ends e dir a b = groups_are (ends_held (joined lists)) shapes.edges ends e.0 dir (subst (λ xs. AllZip AreBoth xs ends) (sym (ends_same lists shapes.edges a.hold)) b)
-
-pub group_edges : (shapes : Shapes) (n : ℕ) (lists : List (List Stored)) (ends : List BothEnds) (base : BaseOf) (e : EdgeNo) (dir : Dir) (v : List Value) (r : Option Group) → AreLists shapes lists → AreListEnds shapes.edges lists ends
-    → record { shapes = shapes; no = n; tables = joined lists } ≡ base → r ≡ group_at v (groups_of ends e dir) → edges_of r ≡ map (λ x. x.edge) (entries_in_base base e dir v)
-group_edges shapes n lists ends base e dir v r a b q h = ap edges_of h ∙ (groups_in shapes n lists ends e dir a b).edges v ∙ ap (λ c. map (λ x. x.edge) (entries_in_base c e dir v)) q
-
-pub group_others : (shapes : Shapes) (n : ℕ) (lists : List (List Stored)) (ends : List BothEnds) (base : BaseOf) (e : EdgeNo) (dir : Dir) (v : List Value) (r : Option Group) → AreLists shapes lists → AreListEnds shapes.edges lists ends
-    → record { shapes = shapes; no = n; tables = joined lists } ≡ base → r ≡ group_at v (groups_of ends e dir) → others_of r ≡ map (λ x. x.other) (entries_in_base base e dir v)
-group_others shapes n lists ends base e dir v r a b q h = ap others_of h ∙ (groups_in shapes n lists ends e dir a b).others v ∙ ap (λ c. map (λ x. x.other) (entries_in_base c e dir v)) q
-
-pub group_cost : (shapes : Shapes) (n : ℕ) (lists : List (List Stored)) (ends : List BothEnds) (base : BaseOf) (e : EdgeNo) (dir : Dir) (before after : ℕ) → AreLists shapes lists → AreListEnds shapes.edges lists ends
-    → record { shapes = shapes; no = n; tables = joined lists } ≡ base → after ≤ before + 3 + digits (length (groups_of ends e dir)) → after ≤ before + (3 + digits (length (ends_in_base base e)))
-group_cost shapes n lists ends base e dir before after a b q h =
-    let d = digits_more _ _ (groups_in shapes n lists ends e dir a b).few in
+pub sides_cost : (shapes : Shapes) (n : ℕ) (lists : List (List Stored)) (sides : List BothSides) (base : BaseOf) (e : EdgeNo) (dir : Dir) (before after : ℕ) → AreSidesOf shapes.edges (joined lists) sides
+    → record { shapes = shapes; no = n; tables = joined lists } ≡ base → after ≤ before + 2 + digits (length (side_of_table dir (slice_get sides e.0))) → after ≤ before + (3 + digits (length (ends_in_base base e)))
+sides_cost shapes n lists sides base e dir before after b q h =
+    let d = digits_more _ _ (sides_are_of (joined lists) shapes.edges sides e.0 dir b).few in
     let k = ap (λ c. digits (length (ends_in_base c e))) q in
     omega (arith, h, d, k)
 

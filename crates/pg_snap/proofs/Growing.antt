@@ -1,8 +1,8 @@
 -- What a loop appends, item by item, or some items that stand together at a time.
-use Rattle.std.proofs.Common.{◌≡◌, ◌+◌, ◌<◌, ◌≤◌, ℕ, suc, List, [], ◌∷◌, ◌++◌, length, get_or, take, refl, ap, sym, subst, ◌∙◌, add-one, arith, append_assoc, length-append}
+use Rattle.std.proofs.Common.{◌≡◌, ◌+◌, ◌<◌, ◌≤◌, ℕ, zero, suc, List, [], ◌∷◌, ◌++◌, length, get_or, take, refl, ap, sym, subst, ◌∙◌, add-one, arith, append_assoc, length-append}
 use Rattle.std.proofs.Math.Seq.{take-suc}
 use Rattle.std.proofs.lemmas.List.Elements.{filter_map-append}
-use Rattle.std.specs.Prelude.{Option, filter_map}
+use Rattle.std.specs.Prelude.{Option, Some, filter_map, slice_get}
 use Rattle.std.specs.List.{cons_option, AllZip}
 use Rattle.pg_chunks.specs.Parts.{IsRun}
 
@@ -60,3 +60,21 @@ zip_push R (z ∷ xs) (w ∷ ys) x y h r = (h.0, zip_push R xs ys x y h.1 r)
 pub zipped : {A B : Type 0} (R : A → B → Type 0) (xs : List A) (ys new : List B) (i : ℕ) (x : A) (y : B) → i < length xs → x ≡ get_or xs i x → AllZip R (take i xs) ys → R x y → new ≡ ys ++ y ∷ [] → AllZip R (take (i + 1) xs) new
 zipped R xs ys new i x y l e h r n =
     rw add-one (rw n (subst (λ zs. AllZip R zs (ys ++ y ∷ [])) (sym (take-suc xs i x l)) (zip_push R (take i xs) ys (get_or xs i x) y h (subst (λ z. R z y) e r))))
+
+-- two lists that go together
+pub zip_length : {A B : Type 0} (R : A → B → Type 0) (xs : List A) (ys : List B) → AllZip R xs ys → length xs ≡ length ys
+zip_length R [] [] h = refl
+zip_length R [] (y ∷ ys) h = absurd h
+zip_length R (x ∷ xs) [] h = absurd h
+zip_length R (x ∷ xs) (y ∷ ys) h = ap suc (zip_length R xs ys h.1)
+
+pub zip_at : {A B : Type 0} (R : A → B → Type 0) (xs : List A) (ys : List B) (i : ℕ) (x : A) (y : B) → AllZip R xs ys → i < length xs → x ≡ get_or xs i x → y ≡ get_or ys i y → R x y
+zip_at R [] ys i x y h l e g = absurd (omega (arith, l))
+zip_at R (w ∷ xs) [] i x y h l e g = absurd h
+zip_at R (w ∷ xs) (z ∷ ys) zero x y h l e g = subst (λ b. R x b) (sym g) (subst (λ a. R a z) (sym e) h.0)
+zip_at R (w ∷ xs) (z ∷ ys) (suc i) x y h l e g = zip_at R xs ys i x y h.1 (omega (arith, l)) e g
+
+pub get_within : {X : Type 0} (xs : List X) (i : ℕ) (x : X) → i < length xs → x ≡ get_or xs i x → slice_get xs i ≡ Some x
+get_within [] i x l e = absurd (omega (arith, l))
+get_within (y ∷ xs) zero x l e = ap (λ z. Some z) (sym e)
+get_within (y ∷ xs) (suc i) x l e = get_within xs i x (omega (arith, l)) e

@@ -9,3 +9,7 @@ pub mod ScanLaws
 pub mod VersionLaws
 pub mod ElementLaws
 pub mod StepLaws
+pub mod VertexLaws
+pub mod FoldLaws
+pub mod JoinLaws
+pub mod KeptLaws

@@ -41,14 +41,14 @@ use Rattle.pg_snap.proofs.RowLaws.{InOrder, in_order_of, search_append, cost_app
 
 -- THE EDGES OF ROWS
 
-abbrev at_side : Dir → List Value → Option EdgeEnds → Option Side
+abbrev pub at_side : Dir → List Value → Option EdgeEnds → Option Side
 at_side dir v None = None
 at_side dir v (Some e) = cond (is_at v (entry dir e)) (Some (side_of (entry dir e))) None
 
-abbrev side_in : EdgeShape → Dir → List Value → Stored → Option Side
+abbrev pub side_in : EdgeShape → Dir → List Value → Stored → Option Side
 side_in shape dir v s = at_side dir v (ends_in shape s)
 
-side_keyed : (shape : EdgeShape) (dir : Dir) (v : List Value) (s : Stored) (y : Side) → side_in shape dir v s ≡ Some y → side_key y ≡ key_of s
+pub side_keyed : (shape : EdgeShape) (dir : Dir) (v : List Value) (s : Stored) (y : Side) → side_in shape dir v s ≡ Some y → side_key y ≡ key_of s
 side_keyed shape dir v s y h = go (key_in shape.source_columns s.row.values) (key_in shape.dest_columns s.row.values) h
   where
     edge_is : (dir : Dir) (e : EdgeEnds) → (entry dir e).edge ≡ e.edge
@@ -70,7 +70,7 @@ sides_step : (dir : Dir) (v : List Value) (r : Option EdgeEnds) (ends : List Edg
 sides_step dir v None ends = refl
 sides_step dir v (Some e) ends = elim (is_at v (entry dir e)) as (λ b. sides_of (cond b (entry dir e ∷ entries_at dir v ends) (entries_at dir v ends)) ≡ cons_option (cond b (Some (side_of (entry dir e))) None) (sides_of (entries_at dir v ends))) [ true ↦ refl | false ↦ refl ]
 
-sides_are : (shape : EdgeShape) (dir : Dir) (v : List Value) (rows : List Stored) → sides_of (entries_at dir v (all_ends shape rows)) ≡ filter_map (side_in shape dir v) rows
+pub sides_are : (shape : EdgeShape) (dir : Dir) (v : List Value) (rows : List Stored) → sides_of (entries_at dir v (all_ends shape rows)) ≡ filter_map (side_in shape dir v) rows
 sides_are shape dir v [] = refl
 sides_are shape dir v (s ∷ rows) = sides_step dir v (ends_in shape s) (all_ends shape rows) ∙ ap (cons_option (side_in shape dir v s)) (sides_are shape dir v rows)
 

@@ -1,19 +1,15 @@
 -- A base: all tables of one version.
-use Rattle.std.specs.Prelude.{ℕ, List, [], map, slice_get}
+use Rattle.std.specs.Prelude.{ℕ, List, [], slice_get}
 use Rattle.std.specs.Option.{option_map, unwrap_or}
-use Rattle.std.specs.List.{AllZip}
 use Rattle.pg_value.specs.declared.value.Value.{Value}
 use Rattle.pg_value.specs.declared.value.Dir.{Dir}
 use Rattle.pg_value.specs.declared.shape.EdgeNo.{EdgeNo}
 use Rattle.pg_value.specs.declared.shape.EdgeShape.{EdgeShape}
 use Rattle.pg_value.specs.declared.shape.Shapes.{Shapes}
-use Rattle.pg_value.specs.Tables.{Stored, Tables, held_in}
+use Rattle.pg_value.specs.Tables.{Tables, held_in}
 use Rattle.pg_adj.specs.declared.ends.EdgeEnds.{EdgeEnds}
-use Rattle.pg_adj.specs.declared.adj.BothEnds.{BothEnds}
-use Rattle.pg_adj.specs.Adjacency.{AreBoth}
 use Rattle.pg_adj.specs.Entries.{Entry, entries_at}
 use Rattle.pg_view.specs.RowEnds.{all_ends}
-use Rattle.pg_view.specs.Lists.{rows_in}
 
 -- the tables of version `no`, which fit the shapes, and these are well made
 pub record BaseOf : Type 0 where
@@ -34,7 +30,3 @@ ends_in_base base e = ends_in_tables base.shapes base.tables e
 -- those that have a vertex at that end, in order of their keys
 abbrev pub entries_in_base : BaseOf → EdgeNo → Dir → List Value → List Entry
 entries_in_base base e dir v = entries_at dir v (ends_in_base base e)
-
--- the adjacency of the rows of lists, of which each table has one
-abbrev pub AreListEnds : List EdgeShape → List (List Stored) → List BothEnds → Type 0
-AreListEnds shapes lists ends = AllZip AreBoth (map (λ shape. all_ends shape (rows_in lists shape.table)) shapes) ends

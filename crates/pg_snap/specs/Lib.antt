@@ -2,5 +2,9 @@ pub mod Bases
 pub mod Snapshots
 pub mod Costs
 pub mod Under
+pub mod Sides
+pub mod Folds
 pub mod Scans
 pub mod Laws
+pub mod Joins
+pub mod Kept

@@ -22,13 +22,9 @@ use Rattle.pg_adj.specs.Entries.{Entry}
 use Rattle.pg_view.specs.Standing.{standing}
 use Rattle.pg_view.specs.declared.view.Neighbour.{Neighbour}
 use Rattle.pg_snap.specs.declared.reached.Reached.{Reached}
+pub use Rattle.pg_snap.specs.declared.vertex.Side.{Side}
 use Rattle.pg_snap.specs.Bases.{entries_in_base}
 use Rattle.pg_snap.specs.Snapshots.{SnapOf, parts}
-
--- an edge from a vertex: its key, and that of the vertex at its other end
-pub record Side : Type 0 where
-  pub edge : Key
-  pub other : Key
 
 abbrev pub side_of : Entry → Side
 side_of e = record { edge = e.edge; other = e.other }

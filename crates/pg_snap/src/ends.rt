@@ -1,11 +1,10 @@
-//! The edges of a base by the vertices at their ends.
-ghost use Rattle.std.specs.Prelude.{◌≡◌, [], ◌++◌, map, IfOk, OnOk};
+//! What the rows of an edge table name as their ends.
+ghost use Rattle.std.specs.Prelude.{◌≡◌, [], ◌++◌, IfOk, OnOk};
 ghost use Rattle.std.specs.List.{cons_option};
 ghost use Rattle.pg_view.specs.Lists.{rows_in};
 ghost use Rattle.pg_view.specs.RowEnds as spec;
-ghost use Rattle.pg_snap.specs.Bases.{AreListEnds};
 
-use pg_adj::{Adj, EdgeEnds};
+use pg_adj::EdgeEnds;
 use pg_rows::RowArrays;
 use pg_run::row_ends;
 use pg_shared::SharedChunks;
@@ -13,7 +12,7 @@ use pg_value::{EdgeShape, List, Stored};
 use std::alloc::{AllocError, Global};
 
 /// What a row of an edge table names as its ends; None where it names no two.
-fn stored_ends(
+pub fn stored_ends(
     alloc: Global,
     shape: &EdgeShape,
     stored: &Stored,
@@ -70,7 +69,7 @@ fn ends_among(
 }
 
 /// The same, of the rows in the list of the edge table.
-fn table_ends(
+pub fn table_ends(
     alloc: Global,
     shape: &EdgeShape,
     rows: &RowArrays,
@@ -81,26 +80,4 @@ fn table_ends(
         Some(held) => ends_among(alloc, shape, held),
         None => Ok(List::new(alloc)),
     }
-}
-
-/// The same of all edge tables.
-fn all_ends(
-    alloc: Global,
-    shapes: &[EdgeShape],
-    rows: &RowArrays,
-) -> Result<List<List<EdgeEnds>>, AllocError>
-    ensures { IfOk result (λ all. all ≡ map (λ shape. spec.all_ends shape (rows_in rows.now shape.table)) shapes.now) }
-{
-    let mut all = List::with_room(alloc, shapes.len())?;
-    for shape in shapes {
-        all.push(table_ends(alloc, shape, rows)?)?;
-    }
-    Ok(all)
-}
-
-/// The rows of edge tables by the vertices that they name, where there is one list of rows for each table.
-pub fn ends_of(alloc: Global, shapes: &[EdgeShape], rows: &RowArrays) -> Result<Adj, AllocError>
-    ensures { IfOk result (AreListEnds shapes.now rows.now) }
-{
-    Adj::build(alloc, all_ends(alloc, shapes, rows)?)
 }

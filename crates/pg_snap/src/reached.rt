@@ -10,6 +10,7 @@ ghost use Rattle.pg_snap.specs.Costs.{run_cost, runs_cost, run_search, runs_sear
 ghost use Rattle.pg_snap.specs.Under as spec;
 ghost use Rattle.pg_snap.specs.Under.{plains, plain_if, zipped, Stepped};
 
+use crate::vertex::Side;
 use pg_adj::Group;
 use pg_run::{Found, Run};
 use pg_value::{Dir, EdgeNo, EdgeShape, Key, Shared, Steps, TableNo, order_keys};
@@ -38,6 +39,20 @@ fn paired<'a>(
         all.push(Reached {
             edge,
             other: &others[i],
+        })?;
+    }
+    Ok(all)
+}
+
+/// The edges of a list.
+pub fn all_reached<'a>(alloc: Global, sides: &'a [Side]) -> Result<Vec<Reached<'a>>, AllocError>
+    ensures { IfOk result (λ all. plains all.items ≡ sides.now) }
+{
+    let mut all = Vec::with_capacity(alloc, sides.len())?;
+    for side in sides {
+        all.push(Reached {
+            edge: &side.edge,
+            other: &side.other,
         })?;
     }
     Ok(all)
@@ -146,7 +161,7 @@ fn woven<'a>(
 
 /// The edges from a vertex under the writes of a run: those that it names go, and those that it gives come. A run without
 /// writes to the edge table takes one step.
-fn under_run<'a, L: Ledger>(
+pub fn under_run<'a, L: Ledger>(
     alloc: Global,
     run: &'a Run,
     edge: EdgeNo,

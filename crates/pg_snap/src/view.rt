@@ -16,7 +16,7 @@ ghost use Rattle.pg_snap.specs.Under as spec;
 ghost use Rattle.pg_snap.specs.Under.{plain, plains};
 
 use crate::Snapshot;
-use crate::reached::{Reached, grouped, under_own, under_runs};
+use crate::reached::{Reached, all_reached, under_own, under_runs};
 use pg_value::{
     Dir, EdgeNo, EdgeShape, ElemId, GraphShape, Key, List, Row, Shapes, Steps, TableNo, TableSet,
     copy_key,
@@ -81,8 +81,7 @@ impl Snapshot {
         ensures cost { steps.new ≤ steps.old + (base_search self.now.base edge + runs_search edge (parts self.now)) + entries self.now edge dir vertex.now.values * runs_cost shape.now.table (parts self.now) }
     {
         self.fits();
-        let group = self.base().group(edge, dir, vertex, steps);
-        let olds = grouped(alloc, group)?;
+        let olds = all_reached(alloc, self.base().sides(edge, dir, vertex, steps))?;
         let news = under_runs(alloc, self.runs(), edge, shape, dir, vertex, olds, steps)?;
         under_own(alloc, self.own(), edge, shape, dir, vertex, news, steps)
     }

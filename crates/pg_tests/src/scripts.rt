@@ -1,5 +1,5 @@
-//! Scripts of several sessions, which no run takes yet: their AFTERs and their orders.
-use pg_script::{Item, Script, one_answer, split};
+//! Scripts of several sessions, which no run takes yet: their AFTERs and their orders; and scripts that a seed gives.
+use pg_script::{Item, Script, generate, one_answer, split};
 use std::alloc::{AllocError, Global};
 use std::test::Fail;
 
@@ -66,5 +66,35 @@ fn sessions_wait_and_have_turns(rt: HostRuntime) -> Result<(), Fail> {
         assert!(rt; script.text.as_str() == *input);
         assert_eq!(rt; script_text(rt.alloc(), &script)?.as_str(), *want);
     }
+    Ok(())
+}
+
+/// A number that a text has, and hardly another.
+fn mark(text: &[u8]) -> u64 {
+    let mut mark: u64 = 0;
+    for byte in text {
+        mark = mark.wrapping_mul(31).wrapping_add(*byte as u64);
+    }
+    mark
+}
+
+/// Lengths and marks were found by another program, from the rules.
+#[test]
+fn scripts_are_generated(rt: HostRuntime) -> Result<(), Fail> {
+    let one = generate(rt.alloc(), 7, 1)?;
+    assert_eq!(rt;
+        (one.len(), mark(one.as_bytes())),
+        (13654, 383326006123644790)
+    );
+    let thirty = generate(rt.alloc(), 7, 30)?;
+    assert_eq!(rt;
+        (thirty.len(), mark(thirty.as_bytes())),
+        (16336, 3498839086158356190)
+    );
+    let last_seed = generate(rt.alloc(), u64::MAX, 26)?;
+    assert_eq!(rt;
+        (last_seed.len(), mark(last_seed.as_bytes())),
+        (15974, 3875302279550719825)
+    );
     Ok(())
 }

@@ -1,5 +1,5 @@
 //! The lines of outcomes that no run has yet, and of commits that take rows away.
-use pg_script::{FaultKind, Outcome, SectionOut, Transcript, print};
+use pg_script::{FaultKind, Outcome, SectionOut, Transcript, print, summary};
 use pg_value::{Commit, Key, List, Row, TableNo, Text, Value, Write, Writes};
 use std::alloc::{AllocError, Global};
 use std::test::Fail;
@@ -196,5 +196,25 @@ fn each_kind_of_line_is_printed(rt: HostRuntime) -> Result<(), Fail> {
         peak: (7, 5),
     };
     assert_eq!(rt; print(alloc, &transcript)?.as_str(), WHOLE);
+    Ok(())
+}
+
+#[test]
+fn outcomes_and_rows_are_counted(rt: HostRuntime) -> Result<(), Fail> {
+    let alloc = rt.alloc();
+    let sections = vec![in alloc;
+        section(alloc, "", of_others(alloc)?, false)?,
+        section(alloc, "a", of_transactions(alloc)?, false)?,
+        section(alloc, "b", of_transactions(alloc)?, false)?,
+    ]?;
+    let transcript = Transcript {
+        has_setup: true,
+        sections: List::from_vec(sections),
+        tables: List::new(alloc),
+        log: log(alloc)?,
+        peak: (1, 0),
+    };
+    let counted = "statements 24\ncommits 2\nrows 4\nlast at 2 base 1\n@end\n";
+    assert_eq!(rt; summary(alloc, &transcript)?.as_str(), counted);
     Ok(())
 }

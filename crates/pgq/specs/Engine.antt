@@ -18,7 +18,8 @@ use Rattle.pg_script.specs.Judged.{Judged, Session, Reading}
 use Rattle.pgq.specs.declared.engine.Engine.{Engine}
 use Rattle.pg_core.specs.Core.{Core, most_over_base}
 use Rattle.pg_session.specs.Stepped.{now, events_of, marking, AfterItem}
-use Rattle.pg_language.specs.Language.{Asked, language, reads, most_transaction_writes}
+use Rattle.pg_ast.specs.declared.pattern.Query.{Query}
+use Rattle.pg_language.specs.Language.{language, reads, most_transaction_writes}
 
 -- how many writes the log may hold
 abbrev pub most_log_writes : ℕ
@@ -90,5 +91,5 @@ pub record Answers (script : Script) (n : ℕ) (e : Engine) (item : Item) (o : O
       → AfterItem (shapes e'.catalog) most_log_writes (core_of sections counts e) (events_of n None writes o ++ marking n) o (core_of sections (counts_then n 1 counts) e')
 
 -- the same of whatever item says this, in any script
-abbrev pub AnswersTo : Reading Define Change Asked → ℕ → Engine → Outcome → Engine → Type 0
+abbrev pub AnswersTo : Reading Define Change Query → ℕ → Engine → Outcome → Engine → Type 0
 AnswersTo r n e o e' = (script : Script) (item : Item) → reads script item r → Answers script n e item o e'

@@ -1,6 +1,6 @@
-//! Queries: each is checked, and answered where its path patterns are such as run.
-ghost use Rattle.std.specs.Prelude.{◌≡◌, true, length, map, None, IfOk};
-ghost use Rattle.std.specs.List.{list_all, list_any};
+//! Queries: each is checked, and answered.
+ghost use Rattle.std.specs.Prelude.{◌≡◌, length, map, None, IfOk};
+ghost use Rattle.std.specs.List.{list_any};
 ghost use Rattle.std.specs.List.Sorted.{IsSorted};
 ghost use Rattle.pg_value.specs.Log.{after};
 ghost use Rattle.pg_value.specs.Orders.{row_order};
@@ -10,53 +10,20 @@ ghost use Rattle.pg_rules.specs.Queries.{query_fault};
 ghost use Rattle.pg_rules.specs.Queries.CheckedQueries.{checked_query};
 ghost use Rattle.pg_rules.specs.Written.{IsWrittenQuery};
 ghost use Rattle.pg_script.specs.Judged.{Asks};
-ghost use Rattle.pg_join.specs.Answered.{AreAnswered};
-ghost use Rattle.pg_language.specs.Language.{keeps_all, path_runs, runs};
 ghost use Rattle.pgq.specs.Asking as spec;
 ghost use Rattle.pgq.specs.Engine.{IsReady, AnswersTo};
 
 use crate::engine::Engine;
-use crate::refusal::{not_yet, query_refusal, told};
-use pg_ast::{Arrow, Query, Selector};
+use crate::refusal::{query_refusal, told};
+use pg_ast::{Arrow, Query};
 use pg_check::check;
-use pg_join::{answer_in_turn, walks_on};
+use pg_join::answer_in_turn;
 use pg_meaning::{CPart, CheckedColumn, CheckedPath, CheckedQuery};
 use pg_rules::accepted_queries_are_sound;
 use pg_script::Outcome;
 use pg_value::{EdgeNo, List, Row, Text};
 use pg_view::{Lists, lists_are_tables};
 use std::alloc::{AllocError, Global};
-
-/// Whether a selector keeps all of the shortest.
-fn keeps_all(selector: Selector) -> bool
-    ensures { result ≡ keeps_all selector }
-{
-    match selector {
-        Selector::Every => false,
-        Selector::Any => false,
-        Selector::AnyShortest => false,
-        Selector::AllShortest => true,
-    }
-}
-
-/// Whether a path pattern is answered: its walks end by themselves, or it is not ALL SHORTEST.
-fn path_runs(path: &CheckedPath) -> bool
-    ensures { result ≡ path_runs path.now }
-{
-    !(walks_on(path) && keeps_all(path.selector))
-}
-
-/// Whether each path pattern is.
-fn paths_run(paths: &[CheckedPath]) -> bool
-    ensures { result ≡ list_all path_runs paths.now }
-{
-    for path in paths {
-        if !path_runs(path) {
-            return false;
-        }
-    }
-    true
-}
 
 /// Whether an arrow may lead over an edge against its direction.
 fn leads_back(arrow: Arrow) -> bool
@@ -132,7 +99,6 @@ fn names_of(alloc: Global, columns: &[CheckedColumn]) -> Result<List<Text>, Allo
 fn rows_of(alloc: Global, engine: &Engine, query: &CheckedQuery) -> Result<List<Row>, AllocError>
     requires ready { IsReady engine.now }
     requires sound { IsSoundQuery engine.now.shapes query.now }
-    requires answered { AreAnswered query.now }
     ensures answer { IfOk result (Answer engine.now.shapes (after engine.now.log (length engine.now.log)) query.now) }
     ensures sorted { IfOk result (λ rows. IsSorted row_order rows) }
 {
@@ -150,21 +116,19 @@ fn rows_of(alloc: Global, engine: &Engine, query: &CheckedQuery) -> Result<List<
     }
 }
 
-/// The answer of a query that is not refused and whose path patterns are such as run.
+/// The answer of a query that is not refused.
 fn answer_query(
     alloc: Global,
     engine: &Engine,
     section: u32,
     query: &Query,
-    at: u32,
     checked: &CheckedQuery,
 ) -> Result<Outcome, AllocError>
     requires ready { IsReady engine.now }
     requires written { IsWrittenQuery query.now }
     requires right { query_fault engine.now.catalog query.now ≡ None }
     requires checked { checked.now ≡ checked_query engine.now.catalog query.now }
-    requires runs { runs checked.now ≡ true }
-    ensures { IfOk result (λ o. AnswersTo (Asks (query.now, at)) section engine.now o engine.now) }
+    ensures { IfOk result (λ o. AnswersTo (Asks query.now) section engine.now o engine.now) }
 {
     engine.catalog.soundness();
     accepted_queries_are_sound();
@@ -178,45 +142,19 @@ fn answer_query(
     })
 }
 
-/// The answer of a query that is not refused: its rows, or NotYet where a path pattern asks ALL SHORTEST of walks that
-/// do not end by themselves.
-fn answer_checked(
-    alloc: Global,
-    engine: &Engine,
-    section: u32,
-    query: &Query,
-    at: u32,
-    checked: &CheckedQuery,
-) -> Result<Outcome, AllocError>
-    requires ready { IsReady engine.now }
-    requires written { IsWrittenQuery query.now }
-    requires right { query_fault engine.now.catalog query.now ≡ None }
-    requires checked { checked.now ≡ checked_query engine.now.catalog query.now }
-    ensures { IfOk result (λ o. AnswersTo (Asks (query.now, at)) section engine.now o engine.now) }
-{
-    if paths_run(checked.paths.as_slice()) {
-        answer_query(alloc, engine, section, query, at, checked)
-    } else {
-        Ok(not_yet(at))
-    }
-}
-
-/// The answer of a query that begins at a place, in a section: the place at which it is refused, or its rows. One that is not
-/// refused, and of which a path pattern asks ALL SHORTEST of walks that do not end by themselves, is NotYet where it begins. Only want of memory gives
-/// none.
+/// The answer of a query, in a section: the place at which it is refused, or its rows. Only want of memory gives none.
 pub fn ask(
     alloc: Global,
     engine: &Engine,
     section: u32,
     query: &Query,
-    at: u32,
 ) -> Result<Outcome, AllocError>
     requires ready { IsReady engine.now }
     requires written { IsWrittenQuery query.now }
-    ensures { IfOk result (λ o. AnswersTo (Asks (query.now, at)) section engine.now o engine.now) }
+    ensures { IfOk result (λ o. AnswersTo (Asks query.now) section engine.now o engine.now) }
 {
     match check(alloc, &engine.catalog, query) {
-        Ok(checked) => answer_checked(alloc, engine, section, query, at, &checked),
+        Ok(checked) => answer_query(alloc, engine, section, query, &checked),
         Err(fault) => told(query_refusal(fault)),
     }
 }

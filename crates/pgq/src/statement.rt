@@ -36,7 +36,7 @@ fn carry_out(
         Statement::Insert(_) => change(alloc, engine, section, tree),
         Statement::Update(_) => change(alloc, engine, section, tree),
         Statement::Delete(_) => change(alloc, engine, section, tree),
-        Statement::Query(query) => ask(alloc, engine, section, query, at),
+        Statement::Query(query) => ask(alloc, engine, section, query),
         Statement::Begin => Ok(not_yet(at)),
         Statement::Commit => Ok(not_yet(at)),
         Statement::Rollback => Ok(not_yet(at)),

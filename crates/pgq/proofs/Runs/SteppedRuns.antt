@@ -24,7 +24,8 @@ use Rattle.pgq.specs.declared.engine.Engine.{Engine}
 use Rattle.pg_session.specs.Stepped.{World, Run, no_run, next_item, Turns, run_out, setup_turns, last_turns, first_world, seats_of, Stepped, AreSessionTurns}
 use Rattle.pg_session.specs.TurnsJoin.{turns_join, turns_both}
 use Rattle.pg_session.specs.Legality.{SteppedRunsAreLegal}
-use Rattle.pg_language.specs.Language.{Asked, says, reading_of, reads, language}
+use Rattle.pg_ast.specs.declared.pattern.Query.{Query}
+use Rattle.pg_language.specs.Language.{says, reading_of, reads, language}
 use Rattle.pgq.specs.Engine.{most_log_writes, counts_then, CanCount, IsFirst}
 use Rattle.pgq.specs.Sections.{world, runs_then, IsWhole, closed, transcript, HaveAnswered, IsStatementIn, IsRunnable, IsRun}
 
@@ -132,7 +133,7 @@ stepped_of script (s ∷ t ∷ []) (outs ∷ more ∷ []) first last short e som
 stepped_of script (s ∷ t ∷ []) (outs ∷ more ∷ x ∷ answers) first last short e some few order f h all = absurd (omega (arith, all))
 
 -- no item of this language waits
-abbrev waits : List ℕ → ℕ → ℕ → Reading Define Change Asked
+abbrev waits : List ℕ → ℕ → ℕ → Reading Define Change Query
 waits name m k = Waits name m k
 
 says_no_wait : (at : ℕ) (t : Statement) (name : List ℕ) (m k : ℕ) → waits name m k ≡ says at t → ⊥

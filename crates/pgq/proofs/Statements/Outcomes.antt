@@ -41,7 +41,8 @@ use Rattle.pg_core.specs.declared.event.Event.{Event}
 use Rattle.pg_core.specs.declared.event.Event.TheVariants as events
 use Rattle.pg_core.specs.Core.{Core, base_after, after_redefine, IsTaken, CanCommit, CanCome, Steps}
 use Rattle.pg_session.specs.Stepped.{base_of, now, events_of, marking, AfterItem}
-use Rattle.pg_language.specs.Language.{Asked, language, reads, reading_of, defines, resolves, checks, affects, name_of, most_transaction_writes}
+use Rattle.pg_ast.specs.declared.pattern.Query.{Query}
+use Rattle.pg_language.specs.Language.{language, reads, reading_of, defines, resolves, checks, affects, name_of, most_transaction_writes}
 use Rattle.pgq.specs.Engine.{most_log_writes, core_of, counts_then, CanCount, resting, peak_after, Answers, AnswersTo}
 use Rattle.pgq.proofs.Commits.LongerLog.{no_conflict}
 use Rattle.pgq.proofs.Runs.OneStatement.{IsAtRest, counted, none_pinned, redefine_is, still_steps, read_steps, full_steps, commit_steps}
@@ -236,10 +237,10 @@ module _ (script : Script) (n : ℕ) (e : Engine) (item : Item) where
         room = omega (arith, room, ap length is.writes);
       }
 
-  pub query_fault_is : (q : Asked) (kind : FaultKind) (at : ℕ) → reads script item (Asks q) → checks e.catalog q (Faulty kind at) → Answers script n e item (AtByte kind at) e
+  pub query_fault_is : (q : Query) (kind : FaultKind) (at : ℕ) → reads script item (Asks q) → checks e.catalog q (Faulty kind at) → Answers script n e item (AtByte kind at) e
   query_fault_is q kind at r faulty = told kind at (λ sections counts outs seen. query_fault q kind at r faulty refl refl)
 
-  pub rows_are : (q : Asked) (y : CheckedQuery) (rows : List Row) → reads script item (Asks q) → checks e.catalog q (Fine y) → Answer (shapes e.catalog) (after e.log (length e.log)) y rows → IsSorted row_order rows
+  pub rows_are : (q : Query) (y : CheckedQuery) (rows : List Row) → reads script item (Asks q) → checks e.catalog q (Fine y) → Answer (shapes e.catalog) (after e.log (length e.log)) y rows → IsSorted row_order rows
       → Answers script n e item (Rows (length e.log) e.base (column_names y) rows) e
   rows_are q y rows r fine a sorted = record {
     writes = no_writes;
@@ -250,7 +251,7 @@ module _ (script : Script) (n : ℕ) (e : Engine) (item : Item) where
   }
 
 -- what cannot be read as a statement that runs
-pub not_read : (n : ℕ) (e : Engine) (r : Reading Define Change Asked) (kind : FaultKind) (at : ℕ) (o : Outcome) → r ≡ Unread kind at → o ≡ AtByte kind at → AnswersTo r n e o e
+pub not_read : (n : ℕ) (e : Engine) (r : Reading Define Change Query) (kind : FaultKind) (at : ℕ) (o : Outcome) → r ≡ Unread kind at → o ≡ AtByte kind at → AnswersTo r n e o e
 not_read n e r kind at o says is script item read = subst (λ x. Answers script n e item x e) (sym is) (unread_is script n e item kind at (subst (reads script item) says read))
 
 -- a statement of a part of the text, by what that reads as
@@ -259,5 +260,5 @@ part_ok script n from to e e' p (Ok o) is h = h script (Sql from to) (p, is, ref
 part_ok script n from to e e' p (Err x) is h = tt
 
 -- a statement that is not run yet
-pub not_run : (n : ℕ) (e : Engine) (r : Reading Define Change Asked) (at : ℕ) (o : Outcome) → r ≡ Unread NotYet at → o ≡ AtByte NotYet at → AnswersTo r n e o e
+pub not_run : (n : ℕ) (e : Engine) (r : Reading Define Change Query) (at : ℕ) (o : Outcome) → r ≡ Unread NotYet at → o ≡ AtByte NotYet at → AnswersTo r n e o e
 not_run n e r at o = not_read n e r NotYet at o

@@ -9,8 +9,8 @@ use Rattle.pg_short.specs.Rounds.{hops_in, all_hops}
 use Rattle.pg_short.proofs.FoundRounds.{on_ok, all_both, each_longer}
 use Rattle.pg_short.proofs.rounds.push_longer.Goals as goal
 
-pub returns : goal.returns
-returns g c =
+pub returns-clause-hops : goal.returns-clause-hops
+returns-clause-hops g c =
     let shapes = g.V.View.shapes c.args.view.now in
     let tables = g.V.View.tables c.args.view.now in
     let leg = leg_view c.args.leg.now in

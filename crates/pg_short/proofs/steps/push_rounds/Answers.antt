@@ -7,8 +7,8 @@ use Rattle.pg_short.proofs.FoundRounds.{on_ok}
 use Rattle.pg_short.proofs.FoundSteps.{steps_flat}
 use Rattle.pg_short.proofs.steps.push_rounds.Goals as goal
 
-pub returns : goal.returns
-returns g c =
+pub returns-clause-made : goal.returns-clause-made
+returns-clause-made g c =
     let s = step_view c.args.step.now in
     let stage = stage_view c.args.stage.now in
     let old = map step_view c.args.found.now.items in
@@ -17,5 +17,5 @@ returns g c =
     (λ h. h ∙ ap (λ (xs : List Step). old ++ xs)
     (steps_flat (map stage_view c.as_slice.result.now) n s stage c.in_ok-rounds.rounds.items
     ∙ ap (λ (ss : List Stage). steps_in ss n s stage (all_hops c.in_ok-rounds.rounds.items)) (ap (map stage_view) c.as_slice.ensures)
-    ∙ ap (steps_in (map stage_view c.args.auto.now.stages) n s stage) c.in_ok-rounds.ensures))
+    ∙ ap (steps_in (map stage_view c.args.auto.now.stages) n s stage) c.in_ok-rounds.ensures.rounds))
     c.push_all_in.ensures

@@ -1,4 +1,4 @@
-use Rattle.std.proofs.Common.{◌∙◌, ap, refl, arith}
+use Rattle.std.proofs.Common.{◌∙◌, ap, refl}
 use Rattle.pg_value.specs.Tables.{stored_at}
 use Rattle.pg_snap.specs.Bases.{BaseOf}
 use Rattle.pg_snap.proofs.BaseLaws.{found, row_cost}

@@ -1,0 +1,5 @@
+use Rattle.pg_snap.proofs.KeptLaws.{fits_more}
+use Rattle.pg_snap.proofs.kept.BaseBaseRun.fold.Goals as goal
+
+pub reshaped-requires-clause-fit : goal.reshaped-requires-clause-fit
+reshaped-requires-clause-fit c = fits_more c.args.old.now.shapes c.args.shapes.now c.args.old.now.tables c.requires.extends c.well_made.ensures.tables
